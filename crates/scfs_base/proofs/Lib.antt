@@ -1,0 +1,4 @@
+pub mod PiecesLemmas
+pub mod NumberLemmas
+pub mod HexLemmas
+pub mod PathLemmas

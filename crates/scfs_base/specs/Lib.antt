@@ -1,0 +1,4 @@
+pub mod InMemory
+pub mod Outside
+pub mod Pieces
+pub mod Words
