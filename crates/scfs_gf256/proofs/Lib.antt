@@ -1,0 +1,11 @@
+pub mod Linear
+pub mod Checks
+pub mod Times
+pub mod Powers
+pub mod Bytes
+pub mod Values
+pub mod Division
+pub mod Lagrange
+pub mod Fitting
+pub mod RowLaws
+pub mod Steps

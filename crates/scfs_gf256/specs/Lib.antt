@@ -1,0 +1,4 @@
+pub mod Field
+pub mod Rows
+pub mod Polynomials
+pub mod Interpolation
