@@ -1,0 +1,4 @@
+pub mod RowLemmas
+pub mod BlockLemmas
+pub mod ContentLemmas
+pub mod LastBlocks

@@ -1,0 +1,21 @@
+use Rattle.std.proofs.Common.{◌≡◌, ap, sym, ◌∙◌, arith}
+use Rattle.scfs_erasure.specs.Rows.{row_at}
+use Rattle.scfs_erasure.specs.Blocks.{numbers_of, bytes_of, size_of}
+use Rattle.scfs_erasure.proofs.BlockLemmas.{piece_of_rows-rows_from, AreOnlyRows-rows_from}
+use Rattle.scfs_erasure.proofs.decoding.block_from.Goals as goal
+
+pub returns-clause-rows : goal.returns-clause-rows
+returns-clause-rows c =
+    let blocks = c.args.blocks.now in
+    AreOnlyRows-rows_from c.args.f (size_of blocks) blocks (omega arith) c.requires.enough c.in_ok-row.ensures.bytes
+
+pub returns-clause-bytes : goal.returns-clause-bytes
+returns-clause-bytes c =
+    let blocks = c.args.blocks.now in
+    let first = c.index-blocks-0.result in
+    let size : c.len.result ≡ size_of blocks =
+    c.len.ensures
+    ∙ c.requires.enough.long 0 first (omega (arith, c.requires.enough.as_many)) in
+    c.in_ok-bytes.ensures ∙ c.deref.ensures.value ∙ c.in_ok-row.ensures.row
+    ∙ ap (λ size. row_at (numbers_of blocks) (bytes_of blocks) size c.args.number) size
+    ∙ sym (piece_of_rows-rows_from c.args.f (size_of blocks) blocks c.args.number (omega arith) c.requires.enough)
