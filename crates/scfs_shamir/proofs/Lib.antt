@@ -1,0 +1,5 @@
+pub mod Gathering
+pub mod Peeling
+pub mod RowLemmas
+pub mod ShareLemmas
+pub mod FittedLemmas
