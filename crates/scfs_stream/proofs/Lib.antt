@@ -1,0 +1,2 @@
+pub mod CipherSteps
+pub mod StreamFacts
