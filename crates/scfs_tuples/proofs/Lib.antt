@@ -1,0 +1,10 @@
+pub mod ActLemmas
+pub mod EndedLemmas
+pub mod EndsLemmas
+pub mod EntriesLemmas
+pub mod FiledLemmas
+pub mod NearLemmas
+pub mod OrderLemmas
+pub mod SearchLemmas
+pub mod ShelvesLemmas
+pub mod TrialLemmas

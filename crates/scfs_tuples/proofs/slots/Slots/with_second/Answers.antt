@@ -1,0 +1,8 @@
+use Rattle.std.proofs.Common.{◌∙◌}
+use Rattle.scfs_tuples.proofs.EndedLemmas.{pair_slots}
+use Rattle.scfs_tuples.proofs.slots.Slots.with_second.Goals as goal
+
+pub returns : goal.returns
+returns c =
+    pair_slots 1 c.at.result.now _ _ c.args.first.now c.args.second.now _ c.args.self.now (c.at.ensures ∙ c.self.invariant.second (c.in_ok-copy_field.field-0, c.in_ok-copy_field-2.field-0))
+    c.in_ok-copy_field.ensures c.in_ok-copy_field-2.ensures c.self.view_is

@@ -1,0 +1,12 @@
+pub mod After
+pub mod Bound
+pub mod Ending
+pub mod Filed
+pub mod Index
+pub mod Matching
+pub mod Near
+pub mod Order
+pub mod Plain
+pub mod Search
+pub mod Steps
+pub mod Trial
