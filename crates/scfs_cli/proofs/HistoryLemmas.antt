@@ -1,0 +1,159 @@
+use Rattle.std.proofs.Common.{◌≡◌, ℕ, List, [], ◌∷◌, ◌++◌, refl, ap, ◌∙◌, sym, subst, Option, Some, None, append-nil, append_assoc, length}
+use Rattle.std.specs.Prelude.{IfSome}
+use Rattle.scfs_schedule.specs.declared.types.Event.{Event}
+use Rattle.scfs_schedule.specs.declared.types.Header.{Header}
+use Rattle.scfs_schedule.specs.declared.types.Ending.{Ending}
+use Rattle.scfs_schedule.specs.Reading.{Read, read, stopped, with_header}
+use Rattle.scfs_model.specs.History.{Entry, events_then, transcript}
+use Rattle.scfs_model.specs.Run.{Run}
+use Rattle.scfs_cli.specs.declared.play.Played.{Played}
+use Rattle.scfs_cli.specs.declared.play.Played.TheVariants as playeds
+use Rattle.scfs_cli.specs.declared.closing.Filled.{Filled}
+use Rattle.scfs_cli.specs.declared.closing.Status.{Status}
+use Rattle.scfs_cli.specs.declared.closing.Status.TheVariants as statuses
+use Rattle.scfs_cli.specs.Closing.{closing_of}
+use Rattle.scfs_cli.specs.Edges.{GetsFront}
+use Rattle.scfs_cli.specs.Headline.{Closes, ReplaysText}
+use Rattle.scfs_cli.proofs.ClosingLemmas.{text_then}
+use Rattle.scfs_cli.specs.Plays.{Plays, PlaysEvents, WroteBy, due_entry}
+use Rattle.scfs_cli.proofs.EdgeLemmas.{front_of_nothing, front_then, puts_nothing}
+
+-- what a text says, with a history's events in front
+abbrev pub with_past : List Entry → Read → Read
+with_past past read = record read { events = events_then past read.events }
+
+-- a history with these events behind it, each with the lines that are due
+pub extended : Header → List Entry → List Event → List Entry
+extended header past [] = past
+extended header past (event ∷ events) = extended header (due_entry header past event ∷ past) events
+
+pub Run-extended : (header : Header) (past : List Entry) (events : List Event) → Run header past → Run header (extended header past events)
+unfolding extended
+Run-extended header past [] run = run
+Run-extended header past (event ∷ events) run = Run-extended header (due_entry header past event ∷ past) events (refl, run)
+
+pub events_then-extended : (header : Header) (past : List Entry) (events : List Event) → events_then (extended header past events) [] ≡ events_then past events
+unfolding extended
+events_then-extended header past [] = refl
+events_then-extended header past (event ∷ events) = events_then-extended header (due_entry header past event ∷ past) events
+
+-- its transcript begins with that of the history
+pub transcript-extended : (header : Header) (past : List Entry) (events : List Event) → (back : List ℕ) × (transcript (extended header past events) ≡ transcript past ++ back)
+unfolding extended
+transcript-extended header past [] = ([], sym (append-nil (transcript past)))
+transcript-extended header past (event ∷ events) =
+    let rest = transcript-extended header (due_entry header past event ∷ past) events in
+    (_, rest.1 ∙ append_assoc (transcript past) _ rest.0)
+
+-- what is a front of a history's transcript is one of the extended history's
+pub front-extended : (header : Header) (past : List Entry) (events : List Event) (a b : Option (List ℕ)) → GetsFront a b (transcript past) → GetsFront a b (transcript (extended header past events))
+front-extended header past events a b g =
+    let more = transcript-extended header past events in
+    subst (λ t. GetsFront a b t) (sym more.1) (front_then a b (transcript past) more.0 g)
+
+-- what playing a part of a text's events left is a front of what its whole run has
+part : (header : Header) (past : List Entry) (whole rest : Read) (a b : Option (List ℕ)) → Run header past → whole ≡ with_past past rest → GetsFront a b (transcript past) →
+    (all : List Entry) × Run header all × (events_then all [] ≡ whole.events) × GetsFront a b (transcript all)
+part header past whole rest a b run is g = (
+  extended header past rest.events,
+  Run-extended header past rest.events run,
+  events_then-extended header past rest.events ∙ sym (ap (λ (r : Read). r.events) is),
+  front-extended header past rest.events a b g,
+)
+
+pub plays_fault : (header : Header) (past : List Entry) (whole rest : Read) (a b : Option (List ℕ)) → Run header past → whole ≡ with_past past rest → GetsFront a b (transcript past) → PlaysEvents header whole a b playeds.WriteFault
+plays_fault header past whole rest a b run is g =
+    let p = part header past whole rest a b run is g in record { past = p.0; run = p.1; events = p.2; wrote = p.3 }
+
+pub plays_memory : (header : Header) (past : List Entry) (whole rest : Read) (a b : Option (List ℕ)) → Run header past → whole ≡ with_past past rest → GetsFront a b (transcript past) → PlaysEvents header whole a b playeds.Memory
+plays_memory header past whole rest a b run is g =
+    let p = part header past whole rest a b run is g in record { past = p.0; run = p.1; events = p.2; wrote = p.3 }
+
+-- the header that a text states, or some header where it states none
+pub header_or_first : Option Header → Header
+header_or_first None = record { f = 1; lease = 1; stale = 0; agents = [] }
+header_or_first (Some header) = header
+
+states : (stated : Option Header) → IfSome stated (λ header. header ≡ header_or_first stated)
+unfolding header_or_first
+states None = tt
+states (Some header) = refl
+
+-- nothing was written
+pub plays_nothing : (whole : Read) (a : Option (List ℕ)) → Plays whole a a playeds.Memory
+plays_nothing whole a =
+    let header = header_or_first whole.header in
+    let p = plays_memory header [] whole whole a a tt refl (front_of_nothing a []) in
+    record { header = header; past = p.past; under = states whole.header; run = p.run; events = p.events; wrote = p.wrote }
+
+-- a text that stops before its first event
+pub plays_stop : (whole : Read) (ending : Ending) (a : Option (List ℕ)) → whole ≡ stopped ending → Plays whole a a (playeds.Ended 0 ending)
+plays_stop whole ending a is =
+    record {
+      header = header_or_first whole.header;
+      past = [];
+      under = states whole.header;
+      run = tt;
+      events = sym (ap (λ (r : Read). r.events) is);
+      wrote = (refl, sym (ap (λ (r : Read). r.ending) is), puts_nothing a);
+    }
+
+-- what was written is said by the ending alone
+wrote_same : (played : Played) (past : List Entry) (r s : Read) (a b : Option (List ℕ)) → r.ending ≡ s.ending → WroteBy played past r a b → WroteBy played past s a b
+wrote_same (playeds.Ended count ending) past r s a b same w = (w.0, w.1 ∙ same, w.2)
+wrote_same playeds.WriteFault past r s a b same w = w
+wrote_same playeds.Memory past r s a b same w = w
+
+-- a header, and then its events
+pub plays_header : (whole rest : Read) (header : Header) (a b : Option (List ℕ)) (played : Played) → whole ≡ with_header header rest → PlaysEvents header rest a b played → Plays whole a b played
+plays_header whole rest header a b played is p =
+    record {
+      header = header;
+      past = p.past;
+      under = subst (λ (r : Read). IfSome r.header (λ stated. stated ≡ header)) (sym is) refl;
+      run = p.run;
+      events = p.events ∙ sym (ap (λ (r : Read). r.events) is);
+      wrote = wrote_same played p.past rest whole a b (sym (ap (λ (r : Read). r.ending) is)) p.wrote;
+    }
+
+-- the headline of a text that was played in part, for this status of a cut
+pub fault_text : (taken : List ℕ) (filled : Filled) (whole : Read) (a b : Option (List ℕ)) → whole ≡ read taken → Plays whole a b playeds.WriteFault → ReplaysText taken filled a b statuses.WriteFault
+fault_text taken filled whole a b is p =
+    record {
+      header = p.header;
+      past = p.past;
+      under = subst (λ (r : Read). IfSome r.header (λ stated. stated ≡ p.header)) is p.under;
+      events = p.events ∙ ap (λ (r : Read). r.events) is;
+      run = p.run;
+      wrote = front_then a b (transcript p.past) _ p.wrote;
+      decided = tt;
+    }
+
+pub memory_text : (taken : List ℕ) (filled : Filled) (whole : Read) (a b : Option (List ℕ)) → whole ≡ read taken → Plays whole a b playeds.Memory → ReplaysText taken filled a b statuses.Memory
+memory_text taken filled whole a b is p =
+    record {
+      header = p.header;
+      past = p.past;
+      under = subst (λ (r : Read). IfSome r.header (λ stated. stated ≡ p.header)) is p.under;
+      events = p.events ∙ ap (λ (r : Read). r.events) is;
+      run = p.run;
+      wrote = front_then a b (transcript p.past) _ p.wrote;
+      decided = tt;
+    }
+
+-- and of a text that was played to its ending, with its last line
+pub closed_text : (taken : List ℕ) (filled : Filled) (whole : Read) (a b c : Option (List ℕ)) (count : ℕ) (ending : Ending) (status : Status) → whole ≡ read taken → Plays whole a b (playeds.Ended count ending) →
+    Closes (closing_of count ending filled) b c status → ReplaysText taken filled a c status
+closed_text taken filled whole a b c count ending status is p closes =
+    let same : ending ≡ (read taken).ending = p.wrote.1 ∙ ap (λ (r : Read). r.ending) is in
+    let closing : closing_of count ending filled ≡ closing_of (length p.past) (read taken).ending filled = ap (λ n. closing_of n ending filled) p.wrote.0 ∙ ap (λ e. closing_of (length p.past) e filled) same in
+    let closes' : Closes (closing_of (length p.past) (read taken).ending filled) b c status = subst (λ line. Closes line b c status) closing closes in
+    record {
+      header = p.header;
+      past = p.past;
+      under = subst (λ (r : Read). IfSome r.header (λ stated. stated ≡ p.header)) is p.under;
+      events = p.events ∙ ap (λ (r : Read). r.events) is;
+      run = p.run;
+      wrote = text_then status a b c (transcript p.past) _ p.wrote.2 closes'.0;
+      decided = closes'.1;
+    }

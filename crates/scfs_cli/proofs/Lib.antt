@@ -1,0 +1,7 @@
+pub mod CallLemmas
+pub mod ClosingLemmas
+pub mod EdgeLemmas
+pub mod HistoryLemmas
+pub mod PlaceLemmas
+pub mod ServeLemmas
+pub mod TreeLemmas

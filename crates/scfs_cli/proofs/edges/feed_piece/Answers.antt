@@ -1,0 +1,15 @@
+use Rattle.std.proofs.Common.{take, arith, length-take-le}
+use Rattle.scfs_cli.proofs.edges.feed_piece.Goals as goal
+
+pub returns-in-Ok-feed-clause-takes : goal.returns-in-Ok-feed-clause-takes
+returns-in-Ok-feed-clause-takes g c =
+    let got = c.in-Ok.ensures.bytes in
+    let fed = c.in-Ok-feed.ensures in
+    let piece = take c.in-Ok.count c.read.new.buf in (
+      piece,
+      length-take-le c.in-Ok.count c.read.new.buf got.0,
+      omega arith,
+      omega (arith, got.0, got.1),
+      got.2,
+      record { fed = fed.takes; place = fed.place; ending = fed.ending; held = fed.held },
+    )

@@ -1,0 +1,81 @@
+ghost use Rattle.std.specs.Prelude.{◌≡◌, ◌<◌, ◌^◌, ◌-◌, List, ℕ, [], Some, true, false, length, map, string_bytes};
+ghost use Rattle.scfs_base.specs.Outside.{Rose};
+ghost use Rattle.scfs_schedule.specs.Reading.{IsAtEvents, gives, read};
+ghost use Rattle.scfs_cli.specs.Headline.{Closes, ReplaysInput, ReplaysText, is_replay};
+ghost use Rattle.scfs_schedule.specs.declared.types.Header.{Header};
+ghost use Rattle.scfs_cli.specs.declared.closing.Filled.{Filled};
+
+use crate::closing::{Filled, LastLine, Status, closing_line};
+use crate::edges::{fill, write_all};
+use crate::play::{Played, play};
+use scfs_base::{Failed, Sink, Source};
+use scfs_schedule::Reader;
+use std::alloc::Global;
+
+/// Writes the last line, and gives its status.
+fn close<O: Sink>(alloc: Global, last: LastLine, out: &mut O) -> Status
+    ensures closes { Closes (Some last) (O.written out.old) (O.written out.new) result }
+    ensures fault { result ≡ Status.WriteFault → Rose (O.faults out.old) (O.faults out.new) }
+{
+    let Ok(text) = last.text(alloc) else {
+        return Status::Memory;
+    };
+    match write_all(out, text.as_slice()) {
+        Ok(()) => last.status(),
+        Err(Failed) => Status::WriteFault,
+    }
+}
+
+/// Plays what was read, and writes the last line.
+fn finish<O: Sink>(alloc: Global, reader: &mut Reader, filled: Filled, out: &mut O) -> Status
+    requires room { length reader.old.rest < 2 ^ 32 - 1 }
+    requires place { (header : Header) → ¬ IsAtEvents reader.old header }
+    ensures replays { (taken : List ℕ) → gives reader.old [] ≡ read taken → ReplaysText taken filled (O.written out.old) (O.written out.new) result }
+    ensures fault { result ≡ Status.WriteFault → Rose (O.faults out.old) (O.faults out.new) }
+{
+    match play(alloc, reader, out) {
+        Played::WriteFault => Status::WriteFault,
+        Played::Memory => Status::Memory,
+        Played::Ended(events, ending) => match closing_line(events, ending, filled) {
+            Some(last) => close(alloc, last, out),
+            None => Status::Memory,
+        },
+    }
+}
+
+/// Replays the schedule on the input.
+fn replay<I: Source, O: Sink>(alloc: Global, input: &mut I, out: &mut O) -> Status
+    ensures replays { ReplaysInput (I.left input.old) (I.left input.new) (O.written out.old) (O.written out.new)
+        (I.ends input.old) (I.ends input.new) (I.faults input.old) (I.faults input.new) result }
+    ensures fault { result ≡ Status.WriteFault → Rose (O.faults out.old) (O.faults out.new) }
+{
+    let mut reader = Reader::new(alloc);
+    let filled = fill(input, &mut reader);
+    match filled {
+        Filled::Memory => Status::Memory,
+        Filled::End | Filled::Fault | Filled::Full => finish(alloc, &mut reader, filled, out),
+    }
+}
+
+/// Replays a schedule: reads it from `input` and writes its transcript to `out`, and then a last line that says how it ended.
+/// The one command is the word `replay` alone.
+pub fn scfs<I: Source, O: Sink>(
+    alloc: Global,
+    words: &[String],
+    input: &mut I,
+    out: &mut O,
+) -> Status
+    ensures usage { is_replay (map string_bytes words.now) ≡ false →
+        Closes (Some LastLine.Usage) (O.written out.old) (O.written out.new) result × (input.new ≡ input.old) }
+    ensures usage_only { result ≡ Status.Usage → is_replay (map string_bytes words.now) ≡ false }
+    ensures replays { is_replay (map string_bytes words.now) ≡ true →
+        ReplaysInput (I.left input.old) (I.left input.new) (O.written out.old) (O.written out.new)
+        (I.ends input.old) (I.ends input.new) (I.faults input.old) (I.faults input.new) result }
+    ensures read_fault { result ≡ Status.ReadFault → Rose (I.faults input.old) (I.faults input.new) }
+    ensures write_fault { result ≡ Status.WriteFault → Rose (O.faults out.old) (O.faults out.new) }
+{
+    match words {
+        [word] if word.as_str() == "replay" => replay(alloc, input, out),
+        _ => close(alloc, LastLine::Usage, out),
+    }
+}

@@ -1,0 +1,47 @@
+//! `scfs` replays a recorded schedule of a shared file system: it reads the schedule from standard input and writes the
+//! transcript to standard output.
+#![tactic(auto)]
+
+mod actor;
+mod call;
+mod closing;
+mod edges;
+mod play;
+mod steps;
+mod streams;
+#[cfg(test)]
+mod tests;
+mod world;
+
+use call::scfs;
+use closing::Status;
+use std::process::ExitCode;
+use std::{env, io};
+use streams::{Incoming, Outgoing};
+
+/// The words behind the program's name; none where one of them is no text.
+fn words(rt: &HostRuntime) -> io::Result<Vec<String>> {
+    let mut words = Vec::new(rt.alloc());
+    match env::args(rt) {
+        Ok(args) => {
+            for word in args.skip(1) {
+                words.push(word)?;
+            }
+        }
+        Err(error) if error.kind() == io::ErrorKind::InvalidData => {}
+        Err(error) => return Err(error),
+    }
+    Ok(words)
+}
+
+fn main(rt: HostRuntime) -> ExitCode {
+    let status = match words(&rt) {
+        Ok(words) => {
+            let mut input = Incoming::new(rt.reader());
+            let mut out = Outgoing::new(io::writer(&rt));
+            scfs(rt.alloc(), words.as_slice(), &mut input, &mut out)
+        }
+        Err(_) => Status::Memory,
+    };
+    ExitCode::from(status.number())
+}
