@@ -1,0 +1,5 @@
+pub mod CheckingLemmas
+pub mod SealLemmas
+pub mod AcceptanceLemmas
+pub mod UnsealLemmas
+pub mod EnoughLemmas

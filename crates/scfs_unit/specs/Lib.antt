@@ -1,0 +1,5 @@
+pub mod Unit
+pub mod Checking
+pub mod Unsealing
+pub mod Clash
+pub mod Steps
