@@ -1,0 +1,60 @@
+-- What a tracker stands for.
+use Rattle.std.specs.Prelude.{◌≡◌, ℕ, ◌+◌, ◌-◌, ◌*◌, ◌<◌, ◌≤◌, List, length, ◌==◌, if◌then◌else◌, Option, Some, None}
+use Rattle.std.specs.List.{All}
+use Rattle.scfs_gf256.specs.Polynomials.{AreDistinct}
+use Rattle.scfs_unit.specs.declared.pieces.KeptPiece.{KeptPiece}
+use Rattle.scfs_unit.specs.Checking.{IsPiece}
+use Rattle.scfs_unit.specs.Unsealing.{clouds_of, unseal}
+use Rattle.scfs_quorum_read.specs.declared.steps.ReadStep.{ReadStep}
+use Rattle.scfs_quorum_read.specs.declared.steps.ReadStep.TheVariants.{Ask, Wait, Whole}
+use Rattle.scfs_quorum_read.specs.Reading.{Reading, Told, good_pieces, asked, turned}
+
+-- a tracker: what is read, the clouds that were asked, the first good piece of each cloud, and the turns that are left
+pub record Tracker : Type 0 where
+  pub reading : Reading
+  pub asked : List ℕ
+  pub pieces : List KeptPiece
+  pub left : Option ℕ
+
+-- the turns that are left after so many
+abbrev pub left_after : Option ℕ → ℕ → Option ℕ
+left_after None number = None
+left_after (Some last) number = Some (last - number)
+
+-- the tracker is as this past leaves it
+pub record StandsFor (tracker : Tracker) (past : List Told) : Type 0 where
+  pub asked : tracker.asked ≡ asked tracker.reading past
+  pub pieces : tracker.pieces ≡ good_pieces tracker.reading past
+  pub left : tracker.left ≡ left_after tracker.reading.turns (turned past)
+
+-- what keeping a piece brings: the contents, if there are f+1 pieces now
+abbrev pub kept_step : ℕ → List KeptPiece → ReadStep
+kept_step f pieces = if length pieces == f + 1 then Whole (unseal f pieces) else Wait
+
+-- how many good pieces there are after a step: f+1 with the contents, and fewer otherwise
+abbrev pub LeavesOpen : ReadStep → Tracker → Type 0
+LeavesOpen (Ask cloud) tracker = length tracker.pieces ≤ tracker.reading.f
+LeavesOpen Wait tracker = length tracker.pieces ≤ tracker.reading.f
+LeavesOpen (Whole contents) tracker = length tracker.pieces ≡ tracker.reading.f + 1
+
+-- each of the 3f+1 clouds once
+pub record IsOrder (f : ℕ) (order : List ℕ) : Type 0 where
+  pub as_many : length order ≡ 3 * f + 1
+  pub different : AreDistinct order
+  pub below : All (λ cloud. cloud < 3 * f + 1) order
+
+-- pieces of different clouds, each by its form and of this length
+pub record AreGood (f size : ℕ) (pieces : List KeptPiece) : Type 0 where
+  pub different : AreDistinct (clouds_of pieces)
+  pub each : All (IsPiece f) pieces
+  pub long : All (λ piece. piece.length ≡ size) pieces
+
+-- what holds of every tracker: f is from 1 to 3, there are at most 1,048,576 bytes, and at most f+1 good pieces
+pub record IsTracker (f size : ℕ) (clouds : List ℕ) (count : ℕ) (good : List KeptPiece) : Type 0 where
+  pub low : 1 ≤ f
+  pub high : f ≤ 3
+  pub small : size ≤ 1048576
+  pub order : IsOrder f clouds
+  pub asked : count ≤ length clouds
+  pub few : length good ≤ f + 1
+  pub pieces : AreGood f size good
