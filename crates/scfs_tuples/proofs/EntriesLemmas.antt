@@ -1,9 +1,10 @@
-use Rattle.std.proofs.Common.{◌≡◌, ℕ, ◌+◌, ◌<◌, List, [], ◌∷◌, ◌++◌, Bool, true, false, refl, ap, ◌∙◌, sym, arith, cond, ◌==◌, Some, subst}
-use Rattle.std.specs.Prelude.{not}
+use Rattle.std.proofs.Common.{◌≡◌, ℕ, ◌+◌, ◌<◌, List, [], ◌∷◌, ◌++◌, Bool, true, false, refl, ap, ◌∙◌, sym, arith, cond, Some, subst}
 use Rattle.std.proofs.lemmas.Bool.Decides.{nat_tests}
 use Rattle.std.specs.BTreeMap.{is_at, insert_entry}
+use Rattle.std.specs.BTreeSet.{insert_key}
 use Rattle.std.specs.List.{filter}
 use Rattle.std.specs.Map.{remove_entry}
+use Rattle.std.specs.Set.{remove_key}
 use Rattle.std.specs.Ordering.{is_eq, nat_cmp}
 use Rattle.std.specs.declared.cmp.Ordering.TheVariants.{Greater}
 use Rattle.scfs_tuples.specs.Filed.{Apart, Below, IsFree, is_slot, slots_of, tuple_at, without}
@@ -95,19 +96,21 @@ pub filter_swap : {X : Type 0} (p q : X → Bool) (xs : List X) → filter p (fi
 filter_swap p q [] = refl
 filter_swap p q (x ∷ xs) = swap_at p q x (filter p xs) (filter q xs) (filter q (filter p xs)) (p x) (q x) refl refl (filter_swap p q xs) refl
 
-slots_at_head : (slot : ℕ) (e : ℕ × Tuple) (es : List (ℕ × Tuple)) (b : Bool) → is_slot slot e ≡ b → slots_of (without slot es) ≡ filter (λ s. not (s == slot)) (slots_of es) →
-    slots_of (without slot (e ∷ es)) ≡ filter (λ s. not (s == slot)) (slots_of (e ∷ es))
-slots_at_head slot e es true h rest =
-    let same : (e.0 == slot) ≡ true = grind (arith, nat_tests, slot_exact slot e.0 h) in
-    rw (h, same) rest
-slots_at_head slot e es false h rest =
-    let differs : (e.0 == slot) ≡ false = grind (arith, nat_tests, h) in
-    rw (h, differs) (ap (λ more. e.0 ∷ more) rest)
+-- a slot above all others goes to the end of the slots
+pub slot_added : (next : ℕ) (es : List (ℕ × Tuple)) → Below next es → insert_key nat_cmp (slots_of es) next ≡ slots_of es ++ next ∷ []
+slot_added next [] b = refl
+slot_added next (e ∷ es) b = rw (above next e.0 b.0) (ap (λ more. e.0 ∷ more) (slot_added next es b.1))
+
+slot_removed_at : (slot : ℕ) (e : ℕ × Tuple) (es : List (ℕ × Tuple)) (b : Bool) → is_slot slot e ≡ b → IsFree e.0 es →
+    remove_key (is_at (nat_cmp slot)) (slots_of es) ≡ slots_of (without slot es) → remove_key (is_at (nat_cmp slot)) (slots_of (e ∷ es)) ≡ slots_of (without slot (e ∷ es))
+slot_removed_at slot e es true h free rest =
+    rw h (ap slots_of (sym (without_free slot es (free_same e.0 slot es (sym (slot_exact slot e.0 h)) free))))
+slot_removed_at slot e es false h free rest = rw h (ap (λ more. e.0 ∷ more) rest)
 
 -- the slots but for one
-pub slots_without : (slot : ℕ) (es : List (ℕ × Tuple)) → slots_of (without slot es) ≡ filter (λ s. not (s == slot)) (slots_of es)
-slots_without slot [] = refl
-slots_without slot (e ∷ es) = slots_at_head slot e es (is_slot slot e) refl (slots_without slot es)
+pub slot_removed : (slot : ℕ) (es : List (ℕ × Tuple)) → Apart es → remove_key (is_at (nat_cmp slot)) (slots_of es) ≡ slots_of (without slot es)
+slot_removed slot [] a = refl
+slot_removed slot (e ∷ es) a = slot_removed_at slot e es (is_slot slot e) refl a.0 (slot_removed slot es a.1)
 
 -- an entry of another slot
 tuple_later : (slot : ℕ) (e : ℕ × Tuple) (es : List (ℕ × Tuple)) (t : Tuple) → is_slot slot e ≡ false → tuple_at (e ∷ es) slot ≡ Some t → tuple_at es slot ≡ Some t

@@ -40,11 +40,11 @@ filed_pushed old new t one two three filed is_one is_two is_three adds_one adds_
       apart = subst Apart (sym is) (apart_more old.next t es filed.below filed.apart);
       below = subst (λ n. Below n new.tuples.entries) (sym next) (subst (Below (old.next + 1)) (sym is) (below_more old.next t es filed.below));
       first = subst (Files field_cmp new.by_first.slots (has 0)) (sym is)
-          (first_pushed es old.next t one old.by_first.slots new.by_first.slots is_one filed.first adds_one);
+          (first_pushed es old.next t one old.by_first.slots new.by_first.slots is_one filed.below filed.first adds_one);
       second = subst (Files pair_cmp new.by_second.slots (has_both 1)) (sym is)
-          (pair_pushed 1 es old.next t two old.by_second.slots new.by_second.slots is_two filed.second adds_two);
+          (pair_pushed 1 es old.next t two old.by_second.slots new.by_second.slots is_two filed.below filed.second adds_two);
       third = subst (Files pair_cmp new.by_third.slots (has_both 2)) (sym is)
-          (pair_pushed 2 es old.next t three old.by_third.slots new.by_third.slots is_three filed.third adds_three);
+          (pair_pushed 2 es old.next t three old.by_third.slots new.by_third.slots is_three filed.below filed.third adds_three);
       ends = λ u k. ends_pushed es old.next t old.by_end new.by_end filed.below filed.ends sets u k ∙ ap (λ l. ends_in u (tuple_at l k)) (sym is);
     }
 

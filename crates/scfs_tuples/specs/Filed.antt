@@ -5,7 +5,6 @@ use Rattle.std.specs.BTreeSet.{BTreeSet, contains}
 use Rattle.std.specs.BTreeMap.{BTreeMap, is_at}
 use Rattle.std.specs.List.{filter}
 use Rattle.std.specs.Map.{lookup}
-use Rattle.std.specs.Global.{Vec}
 use Rattle.scfs_tuples.specs.After.{is_live}
 use Rattle.scfs_tuples.specs.Index.{slots_at}
 use Rattle.scfs_tuples.specs.Near.{has, is_near_to}
@@ -72,7 +71,7 @@ abbrev pub end_cmp : ℕ × ℕ → ℕ × ℕ → Ordering
 end_cmp a b = ordering_then (nat_cmp a.0 b.0) (nat_cmp a.1 b.1)
 
 -- an index has under each key the slots of the entries that have the key
-abbrev pub Files : {K : Type 0} → (K → K → Ordering) → BTreeMap K (Vec ℕ) → (K → Tuple → Bool) → List (ℕ × Tuple) → Type 0
+abbrev pub Files : {K : Type 0} → (K → K → Ordering) → BTreeMap K (BTreeSet ℕ) → (K → Tuple → Bool) → List (ℕ × Tuple) → Type 0
 Files {K} cmp index test es = (k : K) → slots_at cmp index k ≡ slots_of (filter (λ e. test k e.1) es)
 
 abbrev pub has_both : ℕ → Field × Field → Tuple → Bool

@@ -1,24 +1,15 @@
-ghost use Rattle.std.specs.Prelude.{◌≡◌, [], ◌==◌, not, OnOk};
-ghost use Rattle.std.specs.List.{filter};
+ghost use Rattle.std.specs.Prelude.{◌≡◌, [], OnOk, IfOk};
 ghost use Rattle.scfs_tuples.specs.Index.{Adds, Removes, slots_at};
 
 use scfs_base::Memory;
 use std::alloc::Global;
-use std::collections::BTreeMap;
+use std::collections::{BTreeMap, BTreeSet};
 
-/// For each key the slots of the tuples that have it, in rising order.
+/// For each key the set of slots of the tuples that have it.
 #[derive(Drop)]
 pub struct Index<K: Ord> {
     alloc: Global,
-    slots: BTreeMap<K, Vec<u64>>,
-}
-
-/// The slots but for this one.
-fn without(mut slots: Vec<u64>, slot: u64) -> Vec<u64>
-    ensures { result.items ≡ filter (λ s. not (s == slot)) slots.items }
-{
-    slots.retain(|s| *s != slot);
-    slots
+    slots: BTreeMap<K, BTreeSet<u64>>,
 }
 
 impl<K: Ord + Drop> Index<K> {
@@ -32,23 +23,23 @@ impl<K: Ord + Drop> Index<K> {
         }
     }
 
-    /// The slots under a key.
-    pub fn at(&self, key: &K) -> &[u64]
-        ensures { result.now ≡ slots_at K.cmp self.now.slots key.now }
+    /// The slots under a key, rising.
+    pub fn at(&self, key: &K) -> Result<Vec<u64>, Memory>
+        ensures { IfOk result (λ slots. slots.items ≡ slots_at K.cmp self.now.slots key.now) }
     {
         match self.slots.get(key) {
-            Some(slots) => slots.as_slice(),
-            None => &[],
+            Some(slots) => Ok(slots.iter().copied().collect(self.alloc)?),
+            None => Ok(Vec::new(self.alloc)),
         }
     }
 
-    /// Puts a slot behind those under a key, where there is one.
-    pub fn push(&mut self, key: Option<K>, slot: u64) -> Result<(), Memory>
+    /// Puts a slot among those under a key, where there is one.
+    pub fn insert(&mut self, key: Option<K>, slot: u64) -> Result<(), Memory>
         ensures { OnOk result (Adds K.cmp key slot self.old.slots self.new.slots) }
     {
         if let Some(key) = key {
-            let mut slots = self.slots.remove(&key).unwrap_or(Vec::new(self.alloc));
-            slots.push(slot)?;
+            let mut slots = self.slots.remove(&key).unwrap_or(BTreeSet::new(self.alloc));
+            slots.insert(slot)?;
             self.slots.insert(key, slots)?;
         }
         Ok(())
@@ -59,8 +50,8 @@ impl<K: Ord + Drop> Index<K> {
         ensures { OnOk result (Removes K.cmp key slot self.old.slots self.new.slots) }
     {
         if let Some(key) = key {
-            if let Some(slots) = self.slots.remove(&key) {
-                let slots = without(slots, slot);
+            if let Some(mut slots) = self.slots.remove(&key) {
+                slots.remove(&slot);
                 if !slots.is_empty() {
                     self.slots.insert(key, slots)?;
                 }

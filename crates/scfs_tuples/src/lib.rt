@@ -23,3 +23,6 @@ pub use plain::PlainSpace;
 pub use slots::Slots;
 pub use space::Space;
 pub use types::{Cond, Field, Give, Pattern, Reply, Step, StepResult, Template, Tuple, Want};
+
+#[cfg(test)]
+mod tests;

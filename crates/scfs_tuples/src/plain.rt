@@ -130,31 +130,17 @@ impl PlainSpace {
                     taken,
                     mut left,
                 } = standing;
-                let rows = rows(
-                    self.alloc,
-                    step.all.as_slice(),
-                    live.as_slice(),
-                    bound.as_slice(),
-                )?;
-                put_all(
-                    self.alloc,
-                    now,
-                    step.puts.as_slice(),
-                    bound.as_slice(),
-                    &mut left,
-                )?;
+                let known = bound.as_slice();
+                let rows = rows(self.alloc, step.all.as_slice(), live.as_slice(), known)?;
+                put_all(self.alloc, now, step.puts.as_slice(), known, &mut left)?;
                 self.tuples = left;
-                Ok(Reply {
-                    now,
-                    result: StepResult::Did { bound, taken, rows },
-                })
+                let result = StepResult::Did { bound, taken, rows };
+                Ok(Reply { now, result })
             }
             Outcome::Failed { index, tuple } => {
                 self.tuples = live;
-                Ok(Reply {
-                    now,
-                    result: StepResult::Refused { index, tuple },
-                })
+                let result = StepResult::Refused { index, tuple };
+                Ok(Reply { now, result })
             }
         }
     }

@@ -89,9 +89,11 @@ impl Shelves {
         ensures next { OnOk result (self.new.next ≡ self.old.next + 1) }
     {
         let slot = self.next;
-        self.by_first.push(first_key(self.alloc, &tuple)?, slot)?;
-        self.by_second.push(pair_key(self.alloc, &tuple, 1)?, slot)?;
-        self.by_third.push(pair_key(self.alloc, &tuple, 2)?, slot)?;
+        self.by_first.insert(first_key(self.alloc, &tuple)?, slot)?;
+        self.by_second
+            .insert(pair_key(self.alloc, &tuple, 1)?, slot)?;
+        self.by_third
+            .insert(pair_key(self.alloc, &tuple, 2)?, slot)?;
         add_end(&mut self.by_end, tuple.until, slot)?;
         self.tuples.insert(slot, tuple)?;
         self.next += 1;

@@ -85,28 +85,28 @@ impl Slots {
     }
 
     /// The slots of the tuples with this first field, rising.
-    pub(crate) fn with_first(&self, first: &Field) -> &[u64]
-        ensures { result.now ≡ slots_of (filter (λ e. has 0 first.now e.1) self.now) }
+    pub(crate) fn with_first(&self, first: &Field) -> Result<Vec<u64>, Memory>
+        ensures { IfOk result (λ slots. slots.items ≡ slots_of (filter (λ e. has 0 first.now e.1) self.now)) }
     {
-        self.shelves.by_first.at(first)
+        Ok(self.shelves.by_first.at(first)?)
     }
 
     /// The slots of the tuples with these first and second fields, rising.
-    pub(crate) fn with_second(&self, first: &Field, second: &Field) -> Result<&[u64], Memory>
-        ensures { IfOk result (λ slots. slots.now ≡ slots_of (filter (λ e. has 0 first.now e.1 && has 1 second.now e.1) self.now)) }
+    pub(crate) fn with_second(&self, first: &Field, second: &Field) -> Result<Vec<u64>, Memory>
+        ensures { IfOk result (λ slots. slots.items ≡ slots_of (filter (λ e. has 0 first.now e.1 && has 1 second.now e.1) self.now)) }
     {
         let alloc = self.shelves.alloc;
         let key = (copy_field(alloc, first)?, copy_field(alloc, second)?);
-        Ok(self.shelves.by_second.at(&key))
+        Ok(self.shelves.by_second.at(&key)?)
     }
 
     /// The slots of the tuples with these first and third fields, rising.
-    pub(crate) fn with_third(&self, first: &Field, third: &Field) -> Result<&[u64], Memory>
-        ensures { IfOk result (λ slots. slots.now ≡ slots_of (filter (λ e. has 0 first.now e.1 && has 2 third.now e.1) self.now)) }
+    pub(crate) fn with_third(&self, first: &Field, third: &Field) -> Result<Vec<u64>, Memory>
+        ensures { IfOk result (λ slots. slots.items ≡ slots_of (filter (λ e. has 0 first.now e.1 && has 2 third.now e.1) self.now)) }
     {
         let alloc = self.shelves.alloc;
         let key = (copy_field(alloc, first)?, copy_field(alloc, third)?);
-        Ok(self.shelves.by_third.at(&key))
+        Ok(self.shelves.by_third.at(&key)?)
     }
 
     /// The slots of the tuples that are near the pattern, rising.
@@ -127,14 +127,13 @@ impl Slots {
         requires { fixed_at bound.now wants.now 0 ≡ Some first.now }
         ensures { IfOk result (λ slots. slots.items ≡ slots_of (near_entries bound.now wants.now self.now)) }
     {
-        let alloc = self.shelves.alloc;
         if let Some(second) = fixed(wants, 1, bound) {
-            return Ok(Vec::from_slice(alloc, self.with_second(first, second)?)?);
+            return Ok(self.with_second(first, second)?);
         }
         if let Some(third) = fixed(wants, 2, bound) {
-            return Ok(Vec::from_slice(alloc, self.with_third(first, third)?)?);
+            return Ok(self.with_third(first, third)?);
         }
-        Ok(Vec::from_slice(alloc, self.with_first(first))?)
+        Ok(self.with_first(first)?)
     }
 
     /// A slot whose tuple's life has ended; None exactly where all tuples are live.
