@@ -1,2 +1,9 @@
+pub mod FormLemmas
+pub mod HeadingLemmas
 pub mod LineLemmas
+pub mod ReadBackLemmas
 pub mod ReadingLemmas
+pub mod SpellingLemmas
+pub mod SplitLemmas
+pub mod WholeLemmas
+pub mod WrittenLemmas

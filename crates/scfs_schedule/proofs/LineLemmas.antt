@@ -1,8 +1,10 @@
-use Rattle.std.proofs.Common.{◌≡◌, ℕ, ◌+◌, ◌-◌, ◌<◌, ◌≤◌, List, [], ◌∷◌, ◌++◌, length, take, drop, Bool, true, false, cond, eqb, refl, ap, ◌∙◌, sym, subst, arith, append_assoc, length-append, length-take, length-take-le}
+use Rattle.std.proofs.Common.{◌≡◌, ℕ, ◌+◌, ◌-◌, ◌<◌, ◌≤◌, List, [], ◌∷◌, ◌++◌, length, take, drop, Bool, true, false, cond, eqb, refl, ap, ◌∙◌, sym, subst, arith, append_assoc, append-nil, length-append, length-take-le, suc, Some}
+use Rattle.std.specs.Prelude.{slice_get, not}
 use Rattle.std.proofs.Math.Seq.{take-append-add, drop-append-add}
-use Rattle.std.proofs.lemmas.List.{take-append-drop, drop-drop, take_rest}
+use Rattle.std.proofs.lemmas.List.{take-append-drop}
 use Rattle.scfs_base.specs.Pieces.{onto, pieces, CutsAt}
-use Rattle.scfs_schedule.specs.Lines.{HoldsNoLine}
+use Rattle.scfs_schedule.specs.Holding.{HoldsNoLine, HoldsLongLine, is_unfinished}
+use Rattle.scfs_schedule.specs.declared.limits.TheConstants.{LINE_LIMIT}
 
 -- bytes before the first piece
 prefix : List ℕ → List (List ℕ) → List (List ℕ)
@@ -23,7 +25,7 @@ cond-some x ps true h = cc
 cond-some x ps false h = onto-some x ps h
 
 -- there is a piece
-some_piece : (mark : ℕ) (xs : List ℕ) → pieces mark xs ≡ [] → ⊥
+pub some_piece : (mark : ℕ) (xs : List ℕ) → pieces mark xs ≡ [] → ⊥
 some_piece mark [] h = cc
 some_piece mark (x ∷ xs) h = cond-some x (pieces mark xs) (eqb x mark) h
 
@@ -98,3 +100,34 @@ line_within held seen front back clear found f =
 pub none_found : (held seen : List ℕ) (clear : ℕ) → HoldsNoLine (take clear held) → seen ≡ drop clear held → HoldsNoLine seen → HoldsNoLine held
 none_found held seen clear front is back =
     subst HoldsNoLine (take-append-drop clear held) (no_line_behind (take clear held) (drop clear held) front (subst HoldsNoLine is back))
+
+-- a whole line that is too long
+pub long_found : (held tail : List ℕ) (found : ℕ) → CutsAt 10 held (take found held) tail → found < length held → LINE_LIMIT < found → HoldsLongLine held
+long_found held tail found cut within long = λ more.
+    (take found held, pieces 10 (tail ++ more), cut.first more, omega (arith, length-take-le found held (omega arith), long))
+
+-- too much for one line
+pub long_held : (held : List ℕ) → HoldsNoLine held → LINE_LIMIT < length held → HoldsLongLine held
+unfolding prefix
+long_held held none long = λ more. first (pieces 10 more) (some_piece 10 more) more (pieces-behind 10 held more none) where
+  first : (ps : List (List ℕ)) → (ps ≡ [] → ⊥) → (more : List ℕ) → pieces 10 (held ++ more) ≡ prefix held ps → (front : List ℕ) × (others : List (List ℕ)) × (pieces 10 (held ++ more) ≡ front ∷ others) × (LINE_LIMIT < length front)
+  first [] some more is = absurd (some refl)
+  first (p ∷ ps) some more is = (held ++ p, ps, is, omega (arith, length-append held p, long))
+
+-- a word without a space stands before the space
+pub mark_behind : (w rest : List ℕ) → pieces 32 w ≡ w ∷ [] → pieces 32 (w ++ 32 ∷ rest) ≡ w ∷ pieces 32 rest
+unfolding prefix
+mark_behind w rest h = pieces-behind 32 w (32 ∷ rest) h ∙ ap (λ t. t ∷ pieces 32 rest) (append-nil w)
+
+-- bytes end within a line where the last of them is no line's end
+pub last_byte : (bytes : List ℕ) (b : ℕ) → slice_get bytes (length bytes - 1) ≡ Some b → not (eqb b 10) ≡ is_unfinished bytes
+last_byte [] b h = cc
+last_byte (x ∷ []) b h = ap (λ c. not (eqb c 10)) (let e : b ≡ x = cc in e)
+last_byte (x ∷ y ∷ xs) b h =
+    let at : length (x ∷ y ∷ xs) - 1 ≡ suc (length (y ∷ xs) - 1) = omega arith in
+    last_byte (y ∷ xs) b (ap (slice_get (x ∷ y ∷ xs)) (sym at) ∙ h)
+
+-- a line without its end stands before that end
+pub line_behind : (line rest : List ℕ) → pieces 10 line ≡ line ∷ [] → pieces 10 (line ++ 10 ∷ rest) ≡ line ∷ pieces 10 rest
+unfolding prefix
+line_behind line rest h = pieces-behind 10 line (10 ∷ rest) h ∙ ap (λ t. t ∷ pieces 10 rest) (append-nil line)

@@ -1,5 +1,9 @@
 pub mod Grammar
+pub mod Holding
 pub mod Lines
 pub mod Places
 pub mod Reading
+pub mod Splitting
+pub mod Tables
 pub mod Text
+pub mod Written

@@ -1,4 +1,4 @@
-use Rattle.std.specs.Prelude.{◌≡◌, ◌≢◌, ℕ, ◌+◌, ◌-◌, ◌<◌, ◌≤◌, List, [], ◌∷◌, ◌++◌, Bool, true, false, ◌||◌, nat_lt, if◌then◌else◌, Option, Some, None, Result, Ok, Err, length, take}
+use Rattle.std.specs.Prelude.{◌≡◌, ℕ, ◌+◌, ◌<◌, ◌≤◌, List, [], ◌∷◌, ◌++◌, Bool, true, false, ◌||◌, nat_lt, if◌then◌else◌, Option, Some, None, Result, Ok, Err, length, take}
 use Rattle.scfs_base.specs.Pieces.{pieces}
 use Rattle.scfs_schedule.specs.declared.types.Header.{Header}
 use Rattle.scfs_schedule.specs.declared.types.Event.{Event}
@@ -15,8 +15,8 @@ use Rattle.scfs_schedule.specs.declared.types.Said.TheVariants as saids
 use Rattle.scfs_schedule.specs.declared.types.Stop.{Stop}
 use Rattle.scfs_schedule.specs.declared.types.Stop.TheVariants as stops
 use Rattle.scfs_schedule.specs.declared.types.Which.TheVariants as whichs
-use Rattle.scfs_schedule.specs.declared.limits.TheConstants.{INPUT_LIMIT}
-use Rattle.scfs_schedule.specs.Grammar.{said_of, IsEvent, IsHeader}
+use Rattle.scfs_schedule.specs.declared.limits.TheConstants.{INPUT_LIMIT, LINE_LIMIT}
+use Rattle.scfs_schedule.specs.Grammar.{said_of, IsEvent, IsHeader, IsScriptEvent}
 
 -- what a text says: its header, its events, and how it ends
 pub record Read : Type 0 where
@@ -40,6 +40,14 @@ stopped ending = record { header = None; events = []; ending = ending }
 abbrev pub bad_line : ℕ → BadKind → Ending
 bad_line line kind = endings.Stopped (stops.Bad (record { line = line; kind = kind }))
 
+-- a line that is longer than any line may be
+abbrev pub is_too_long : List ℕ → Bool
+is_too_long line = nat_lt LINE_LIMIT (length line)
+
+-- the stop at a line that is too long
+abbrev pub long_line : Read
+long_line = stopped (endings.Stopped (stops.TooLarge whichs.Line))
+
 -- how a text ends whose line of this number is not whole: it may be longer than what is looked at
 abbrev pub unfinished : Bool → ℕ → Ending
 unfinished true line = endings.Stopped (stops.TooLarge whichs.Input)
@@ -54,19 +62,22 @@ after saids.Ends place line rest = stopped endings.Ended
 after (saids.Wrong kind) place line rest = stopped (bad_line line kind)
 
 -- what the lines say from a place on, with so many lines before them; the last piece is no whole line
-abbrev pub read_lines : Bool → Place → ℕ → List (List ℕ) → Read
-read_lines longer place lines [] = stopped (unfinished longer (lines + 1))
-read_lines longer place lines (last ∷ []) = stopped (unfinished longer (lines + 1))
-read_lines longer place lines (line ∷ next ∷ rest) =
-    after (said_of place line) place (lines + 1) (λ p. read_lines longer p (lines + 1) (next ∷ rest))
+abbrev pub read_lines : Bool → Bool → Place → ℕ → List (List ℕ) → Read
+read_lines script longer place lines [] = stopped (unfinished longer (lines + 1))
+read_lines script longer place lines (last ∷ []) =
+    if is_too_long last then long_line else stopped (unfinished longer (lines + 1))
+read_lines script longer place lines (line ∷ next ∷ rest) =
+    if is_too_long line then long_line
+    else after (said_of script place line) place (lines + 1) (λ p. read_lines script longer p (lines + 1) (next ∷ rest))
 
--- what a text says: at most the first INPUT_LIMIT bytes are looked at
-abbrev pub read : List ℕ → Read
-read text = read_lines (nat_lt INPUT_LIMIT (length text)) places.Version 0 (pieces 10 (take INPUT_LIMIT text))
+-- what a text says, as a schedule or as a script: at most the first INPUT_LIMIT bytes are looked at
+abbrev pub read : Bool → List ℕ → Read
+read script text = read_lines script (nat_lt INPUT_LIMIT (length text)) places.Version 0 (pieces 10 (take INPUT_LIMIT text))
 
--- where a reader stands: its place in the text, how many lines are behind it, the bytes that it holds, how many more it
+-- where a reader stands: whether it reads a script, its place in the text, how many lines are behind it, the bytes that it holds, how many more it
 -- may take, whether there were more than it may take, and the ending that it met
 pub record Reading : Type 0 where
+  pub script : Bool
   pub place : Place
   pub lines : ℕ
   pub rest : List ℕ
@@ -74,9 +85,9 @@ pub record Reading : Type 0 where
   pub longer : Bool
   pub ending : Option Ending
 
--- a new reader
-abbrev pub unread : Reading
-unread = record { place = places.Version; lines = 0; rest = []; room = INPUT_LIMIT; longer = false; ending = None }
+-- a new reader of a schedule or of a script
+abbrev pub unread : Bool → Reading
+unread script = record { script = script; place = places.Version; lines = 0; rest = []; room = INPUT_LIMIT; longer = false; ending = None }
 
 abbrev pub unless_ended : Option Ending → Read → Read
 unless_ended None read = read
@@ -86,7 +97,7 @@ unless_ended (Some ending) read = stopped ending
 abbrev pub gives : Reading → List ℕ → Read
 gives reading more =
     unless_ended reading.ending
-    (read_lines (reading.longer || nat_lt reading.room (length more)) reading.place reading.lines
+    (read_lines reading.script (reading.longer || nat_lt reading.room (length more)) reading.place reading.lines
     (pieces 10 (reading.rest ++ take reading.room more)))
 
 -- how the text ends if nothing more is fed and no whole line is held
@@ -122,16 +133,18 @@ abbrev pub Gives : Result (Option Item) Stop → Reading → Reading → Type 0
 Gives (Ok (Some (items.Header header))) old new =
     IsHeader header × IsAtEvents new header × ((h : Header) → ¬ IsAtEvents old h)
     × (length new.rest < length old.rest) × (old.ending ≡ None) × (new.ending ≡ None)
-    × ((more : List ℕ) → gives old more ≡ with_header header (gives new more))
+    × ((more : List ℕ) → gives old more ≡ with_header header (gives new more)) × (new.lines ≡ length header.agents + 5)
 Gives (Ok (Some (items.Event event))) old new =
     (header : Header) × (IsAtEvents old header × IsAtEvents new header × IsEvent header event
     × (length new.rest < length old.rest) × (old.ending ≡ None) × (new.ending ≡ None)
-    × ((more : List ℕ) → gives old more ≡ with_event event (gives new more)))
+    × ((more : List ℕ) → gives old more ≡ with_event event (gives new more)) × (new.lines ≡ old.lines + 1)
+    × (old.script ≡ true → IsScriptEvent event))
 Gives (Ok (Some items.End)) old new =
     (header : Header) × (IsAtEvents old header × (new.ending ≡ Some endings.Ended) × IsDrained new
-    × ((more : List ℕ) → gives old more ≡ stopped endings.Ended))
+    × ((more : List ℕ) → gives old more ≡ stopped endings.Ended) × (old.ending ≡ None → new.lines ≡ old.lines + 1))
 Gives (Ok None) old new =
     IsDrained new × (old.ending ≡ None) × (new.ending ≡ None) × (new.longer ≡ false)
     × ((h : Header) → IsAtEvents old h → IsAtEvents new h) × ((h : Header) → IsAtEvents new h → IsAtEvents old h)
-    × ((more : List ℕ) → gives old more ≡ gives new more)
+    × ((more : List ℕ) → gives old more ≡ gives new more) × (length new.rest ≤ LINE_LIMIT)
+    × ((h : Header) → IsAtEvents old h → new.lines ≡ old.lines)
 Gives (Err stop) old new = Stops stop old new

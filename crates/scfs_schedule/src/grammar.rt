@@ -1,15 +1,15 @@
-ghost use Rattle.std.specs.Prelude.{◌≡◌, ℕ, ◌<◌, ◌≤◌, [], ◌∷◌, List, map, length, codes, ◌&&◌, ◌==◌, IfOk, IfSome};
-ghost use Rattle.std.specs.List.{list_all};
-ghost use Rattle.std.specs.Str.{bytes_eq};
-ghost use Rattle.scfs_base.specs.Words.{number_of, path_of};
-ghost use Rattle.scfs_schedule.specs.Grammar.{words_of, ranged, agent_of, is_plain, is_path, built_path, call_of, event_said, header_number, with_agent, agent_said, said_of};
-ghost use Rattle.scfs_schedule.specs.Places.{IsPlace, IsSaidAt};
+ghost use Rattle.std.specs.Prelude.{◌≡◌, ◌≤◌, [], ◌∷◌, map, IfOk, false};
+ghost use Rattle.scfs_schedule.specs.Grammar.{words_of, made, both, call_event, named_call, say_event, named_answer, tick_event, agent_event, cloud_event, actor_event, event_named, event_of, is_script_word, end_said, event_said, only_number, header_number, with_agent, agent_line, begin_said, agents_said, said_of, IsHeader, IsEvent};
+ghost use Rattle.scfs_schedule.specs.Tables.{agent_word, cloud_word, call_word, answer_word};
+ghost use Rattle.scfs_schedule.specs.Places.{IsPlace, IsSaidAt, IsWithOneMore};
+ghost use Rattle.scfs_schedule.specs.declared.types.Header.{Header};
 
-use crate::{BadKind, Call, Event, Header, Mode, Place, Said};
-use scfs_base::{Bytes, Memory, Sequence, cut, read_digest_word, read_number, read_path_word};
+use crate::forms::{self, Form, agent, cloud, mode, number_within, seed};
+use crate::tables::{AgentWord, CloudWord};
+use crate::wording::{agent_word, answer_word, call_word, cloud_word, may_follow, words_of_call};
+use crate::{BadKind, Event, Header, Mode, Place, Said};
+use scfs_base::{Memory, Sequence, cut};
 use std::alloc::Global;
-
-const UNKNOWN: Said = Said::Wrong(BadKind::Unbuilt);
 
 /// The words of a line.
 fn words(alloc: Global, line: &[u8]) -> Result<Vec<&[u8]>, Memory>
@@ -25,124 +25,206 @@ fn words(alloc: Global, line: &[u8]) -> Result<Vec<&[u8]>, Memory>
     Ok(words)
 }
 
-/// The number that a word spells, if it is in the range.
-fn ranged_number(low: u64, high: u64, word: &[u8]) -> Option<u64>
-    ensures value { result ≡ ranged low high (number_of word.now) }
-    ensures low { IfSome result (λ n. low ≤ n) }
-    ensures high { IfSome result (λ n. n ≤ high) }
+/// What the words behind `call` state.
+fn call_event(alloc: Global, header: &Header, words: &[&[u8]]) -> Result<Form<Event>, Memory>
+    requires { IsHeader header.now }
+    ensures value { IfOk result (λ form. form ≡ call_event header.now (map (λ w. w.now) words.now)) }
+    ensures fits { IfOk result (λ form. IfOk form (λ event. IsEvent header.now event)) }
 {
-    match read_number(word) {
-        Some(number) if low <= number && number <= high => Some(number),
-        _ => None,
+    match words {
+        [number, word, words @ ..] => named_call(alloc, header, number, word, words),
+        _ => Ok(Err(BadKind::Word)),
     }
 }
 
-/// The number of an agent of the header.
-fn agent(header: &Header, word: &[u8]) -> Option<u8>
-    requires some { 1 ≤ length header.now.agents }
-    requires few { length header.now.agents ≤ 8 }
-    ensures value { result ≡ agent_of header.now word.now }
-    ensures below { IfSome result (λ a. a < length header.now.agents) }
+fn named_call(
+    alloc: Global,
+    header: &Header,
+    number: &[u8],
+    word: &[u8],
+    words: &[&[u8]],
+) -> Result<Form<Event>, Memory>
+    requires { IsHeader header.now }
+    ensures value { IfOk result (λ form. form ≡ named_call header.now number.now (call_word word.now) (map (λ w. w.now) words.now)) }
+    ensures fits { IfOk result (λ form. IfOk form (λ event. IsEvent header.now event)) }
 {
-    let last = header.agents.len() - 1;
-    match ranged_number(0, last as u64, word) {
-        Some(agent) => Some(agent as u8),
-        None => None,
+    match call_word(word) {
+        Some(call) if words.len() == words_of_call(call) => match agent(header, number) {
+            Ok(agent) => match forms::call(alloc, call, words)? {
+                Ok(call) => Ok(Ok(Event::Call(agent, call))),
+                Err(kind) => Ok(Err(kind)),
+            },
+            Err(kind) => Ok(Err(kind)),
+        },
+        _ => Ok(Err(BadKind::Word)),
     }
 }
 
-fn is_plain(name: &[u8]) -> bool
-    ensures { result ≡ list_all is_plain name.now }
+/// What the words behind `say` state.
+fn say_event(alloc: Global, header: &Header, words: &[&[u8]]) -> Result<Form<Event>, Memory>
+    requires { IsHeader header.now }
+    ensures value { IfOk result (λ form. form ≡ say_event header.now (map (λ w. w.now) words.now)) }
+    ensures fits { IfOk result (λ form. IfOk form (λ event. IsEvent header.now event)) }
 {
-    name.iter()
-        .all(|byte| matches!(*byte, b'a'..=b'z' | b'0'..=b'9'))
-}
-
-fn is_path(path: &[u8]) -> bool
-    ensures { result ≡ is_path path.now }
-{
-    match path {
-        [b'/', name @ ..] if !name.is_empty() && name.len() <= 255 => is_plain(name),
-        _ => false,
+    match words {
+        [number, word, words @ ..] => named_answer(alloc, header, number, word, words),
+        _ => Ok(Err(BadKind::Word)),
     }
 }
 
-/// The path that a word spells, if this program knows such a path.
-fn path(alloc: Global, word: &[u8]) -> Result<Option<Bytes>, Memory>
-    ensures { IfOk result (λ path. path ≡ built_path (path_of word.now)) }
+fn named_answer(
+    alloc: Global,
+    header: &Header,
+    number: &[u8],
+    word: &[u8],
+    words: &[&[u8]],
+) -> Result<Form<Event>, Memory>
+    requires { IsHeader header.now }
+    ensures value { IfOk result (λ form. form ≡ named_answer header.now number.now (answer_word word.now) (map (λ w. w.now) words.now)) }
+    ensures fits { IfOk result (λ form. IfOk form (λ event. IsEvent header.now event)) }
 {
-    match read_path_word(alloc, word)? {
-        Some(path) if is_path(path.as_slice()) => Ok(Some(path)),
-        _ => Ok(None),
+    match answer_word(word) {
+        Some(answer) if may_follow(answer, words.len()) => match cloud(header, number) {
+            Ok(cloud) => match forms::answer(alloc, answer, words)? {
+                Ok(answer) => Ok(Ok(Event::Say(cloud, answer))),
+                Err(kind) => Ok(Err(kind)),
+            },
+            Err(kind) => Ok(Err(kind)),
+        },
+        _ => Ok(Err(BadKind::Word)),
     }
 }
 
-fn call(alloc: Global, word: &[u8], path_word: &[u8]) -> Result<Option<Call>, Memory>
-    ensures { IfOk result (λ call. call ≡ call_of word.now path_word.now) }
+/// What the words behind `tick` state.
+fn tick_event(words: &[&[u8]]) -> Form<Event>
+    ensures value { result ≡ tick_event (map (λ w. w.now) words.now) }
+    ensures ticks { IfOk result (λ event. (header : Header) → IsEvent header event) }
 {
-    if word == b"create".as_slice() {
-        return Ok(path(alloc, path_word)?.map(Call::Create));
+    match words {
+        [ticks] => number_within(1, 1_000_000_000, ticks).map(Event::Tick),
+        _ => Err(BadKind::Word),
     }
-    if word == b"stat".as_slice() {
-        return Ok(path(alloc, path_word)?.map(Call::Stat));
-    }
-    Ok(None)
 }
 
-fn two_words(header: &Header, word: &[u8], number: &[u8]) -> Said
-    requires { IsPlace (Place.Events header.now) }
-    ensures value { result ≡ event_said header.now (word.now ∷ number.now ∷ []) }
-    ensures fits { IsSaidAt (Place.Events header.now) result }
+fn agent_event(word: AgentWord, agent: u8) -> Event
+    ensures value { result ≡ agent_event word agent }
 {
-    let event = if word == b"space".as_slice() {
-        agent(header, number).map(Event::Space)
-    } else if word == b"told".as_slice() {
-        agent(header, number).map(Event::Told)
-    } else {
-        None
+    match word {
+        AgentWord::Space => Event::Space(agent),
+        AgentWord::Later => Event::Later(agent),
+        AgentWord::Told => Event::Told(agent),
+        AgentWord::Turn => Event::Turn(agent),
+        AgentWord::Crash => Event::Crash(agent),
+        AgentWord::Start => Event::Start(agent),
+    }
+}
+
+fn cloud_event(word: CloudWord, cloud: u8) -> Event
+    ensures value { result ≡ cloud_event word cloud }
+{
+    match word {
+        CloudWord::Serve => Event::Serve(cloud),
+        CloudWord::Hide => Event::Hide(cloud),
+        CloudWord::Fail => Event::Fail(cloud),
+        CloudWord::Give => Event::Give(cloud),
+        CloudWord::Lose => Event::Lose(cloud),
+        CloudWord::Drop => Event::Drop(cloud),
+        CloudWord::Defer => Event::Defer(cloud),
+        CloudWord::Swap => Event::Swap(cloud),
+        CloudWord::Again => Event::Again(cloud),
+        CloudWord::Twice => Event::Twice(cloud),
+    }
+}
+
+/// An event of one number.
+fn actor_event(
+    header: &Header,
+    of_agent: Option<AgentWord>,
+    of_cloud: Option<CloudWord>,
+    words: &[&[u8]],
+) -> Form<Event>
+    requires { IsHeader header.now }
+    ensures value { result ≡ actor_event header.now of_agent of_cloud (map (λ w. w.now) words.now) }
+    ensures fits { IfOk result (λ event. IsEvent header.now event) }
+{
+    let [number] = words else {
+        return Err(BadKind::Word);
     };
-    event.map_or(UNKNOWN, Said::Says)
+    match (of_agent, of_cloud) {
+        (Some(word), _) => match agent(header, number) {
+            Ok(agent) => Ok(agent_event(word, agent)),
+            Err(kind) => Err(kind),
+        },
+        (None, Some(word)) => match cloud(header, number) {
+            Ok(cloud) => Ok(cloud_event(word, cloud)),
+            Err(kind) => Err(kind),
+        },
+        (None, None) => Err(BadKind::Word),
+    }
 }
 
-fn four_words(
+/// What a first word and the words behind it state.
+fn event_named(
     alloc: Global,
     header: &Header,
     word: &[u8],
-    number: &[u8],
-    made: &[u8],
-    path: &[u8],
-) -> Result<Said, Memory>
-    requires { IsPlace (Place.Events header.now) }
-    ensures value { IfOk result (λ said. said ≡ event_said header.now (word.now ∷ number.now ∷ made.now ∷ path.now ∷ [])) }
-    ensures fits { IfOk result (λ said. IsSaidAt (Place.Events header.now) said) }
+    words: &[&[u8]],
+) -> Result<Form<Event>, Memory>
+    requires { IsHeader header.now }
+    ensures value { IfOk result (λ form. form ≡ event_named header.now word.now (map (λ w. w.now) words.now)) }
+    ensures fits { IfOk result (λ form. IfOk form (λ event. IsEvent header.now event)) }
 {
-    if word != b"call".as_slice() {
-        return Ok(UNKNOWN);
-    }
-    let Some(agent) = agent(header, number) else {
-        return Ok(UNKNOWN);
-    };
-    match call(alloc, made, path)? {
-        Some(call) => Ok(Said::Says(Event::Call(agent, call))),
-        None => Ok(UNKNOWN),
+    if word == b"call".as_slice() {
+        call_event(alloc, header, words)
+    } else if word == b"say".as_slice() {
+        say_event(alloc, header, words)
+    } else if word == b"tick".as_slice() {
+        Ok(tick_event(words))
+    } else {
+        Ok(actor_event(header, agent_word(word), cloud_word(word), words))
     }
 }
 
-/// What the words of a line behind the header say.
-fn event(alloc: Global, header: &Header, words: &[&[u8]]) -> Result<Said, Memory>
-    requires { IsPlace (Place.Events header.now) }
-    ensures value { IfOk result (λ said. said ≡ event_said header.now (map (λ w. w.now) words.now)) }
+fn is_script_word(word: &[u8]) -> bool
+    ensures { result ≡ is_script_word word.now }
+{
+    word == b"call".as_slice()
+        || word == b"turn".as_slice()
+        || word == b"tick".as_slice()
+        || word == b"crash".as_slice()
+        || word == b"start".as_slice()
+}
+
+/// What the words behind `end` say.
+fn end_line(words: &[&[u8]]) -> Said
+    ensures value { result ≡ end_said (map (λ w. w.now) words.now) }
+    ensures fits { (header : Header) → IsSaidAt (Place.Events header) result }
+{
+    if words.is_empty() {
+        Said::Ends
+    } else {
+        Said::Wrong(BadKind::Word)
+    }
+}
+
+/// What the words of a line behind the header say, in a schedule or in a script.
+fn event_line(alloc: Global, script: bool, header: &Header, words: &[&[u8]]) -> Result<Said, Memory>
+    requires { IsHeader header.now }
+    ensures value { IfOk result (λ said. said ≡ event_said script header.now (map (λ w. w.now) words.now)) }
     ensures fits { IfOk result (λ said. IsSaidAt (Place.Events header.now) said) }
 {
-    match words {
-        [word] => Ok(if *word == b"end".as_slice() {
-            Said::Ends
-        } else {
-            UNKNOWN
-        }),
-        [word, number] => Ok(two_words(header, word, number)),
-        [word, number, made, path] => four_words(alloc, header, word, number, made, path),
-        _ => Ok(UNKNOWN),
+    let [word, words @ ..] = words else {
+        return Ok(Said::Wrong(BadKind::Word));
+    };
+    if *word == b"end".as_slice() {
+        return Ok(end_line(words));
+    }
+    if script && !is_script_word(word) {
+        return Ok(Said::Wrong(BadKind::Word));
+    }
+    match event_named(alloc, header, word, words)? {
+        Ok(event) => Ok(Said::Says(event)),
+        Err(kind) => Ok(Said::Wrong(kind)),
     }
 }
 
@@ -153,84 +235,173 @@ fn header_number(
     low: u64,
     high: u64,
     line: &[u8],
-) -> Result<Option<u64>, Memory>
-    ensures value { IfOk result (λ number. number ≡ header_number name.now low high (words_of line.now)) }
-    ensures low { IfOk result (λ number. IfSome number (λ n. low ≤ n)) }
-    ensures high { IfOk result (λ number. IfSome number (λ n. n ≤ high)) }
+) -> Result<Form<u64>, Memory>
+    ensures value { IfOk result (λ form. form ≡ header_number name.now low high (words_of line.now)) }
+    ensures low { IfOk result (λ form. IfOk form (λ n. low ≤ n)) }
+    ensures high { IfOk result (λ form. IfOk form (λ n. n ≤ high)) }
 {
     let words = words(alloc, line)?;
     match words.as_slice() {
-        [word, number] if *word == name => Ok(ranged_number(low, high, number)),
-        _ => Ok(None),
+        [word, number] if *word == name => Ok(number_within(low, high, number)),
+        [word, ..] if *word == name => Ok(Err(BadKind::Word)),
+        _ => Ok(Err(BadKind::Order)),
     }
 }
 
-/// The header with one more blocking agent of this seed.
-fn with_agent(alloc: Global, header: &Header, seed: [u8; 32]) -> Result<Header, Memory>
-    ensures { IfOk result (λ longer. longer ≡ with_agent header.now (Mode.Blocking, seed)) }
+/// The header with one more agent.
+fn with_agent(alloc: Global, header: &Header, mode: Mode, seed: [u8; 32]) -> Result<Header, Memory>
+    ensures value { IfOk result (λ longer. longer ≡ with_agent header.now 0 mode seed) }
+    ensures longer { IfOk result (λ longer. IsWithOneMore header.now longer) }
 {
     let mut longer = header.copy(alloc)?;
-    longer.agents.push((Mode::Blocking, seed))?;
+    longer.agents.push((mode, seed))?;
     Ok(longer)
 }
 
-fn is_first_agent(header: &Header, word: &[u8], number: &[u8], mode: &[u8]) -> bool
-    ensures { result ≡ (bytes_eq word.now (codes "agent")
-        && (bytes_eq number.now (codes "0") && (bytes_eq mode.now (codes "blocking") && length header.now.agents == 0))) }
-{
-    word == b"agent".as_slice()
-        && number == b"0".as_slice()
-        && mode == b"blocking".as_slice()
-        && header.agents.is_empty()
-}
-
-/// What the words of a line in the agents' place say.
-fn agent_line(alloc: Global, header: &Header, words: &[&[u8]]) -> Result<Said, Memory>
-    requires { IsPlace (Place.Agents header.now) }
-    ensures value { IfOk result (λ said. said ≡ agent_said header.now (map (λ w. w.now) words.now)) }
-    ensures fits { IfOk result (λ said. IsSaidAt (Place.Agents header.now) said) }
+/// What the words behind `agent` state.
+fn agent_line(alloc: Global, header: &Header, words: &[&[u8]]) -> Result<Form<Header>, Memory>
+    ensures value { IfOk result (λ form. form ≡ agent_line header.now (map (λ w. w.now) words.now)) }
+    ensures longer { IfOk result (λ form. IfOk form (λ longer. IsWithOneMore header.now longer)) }
 {
     match words {
-        [word] if *word == b"begin".as_slice() && header.agents.len() >= 1 => Ok(Said::Begins(
-            header.copy(alloc)?,
-        )),
-        [word, number, mode, seed] if is_first_agent(header, word, number, mode) =>
-            match read_digest_word(seed) {
-                Some(seed) => Ok(Said::Moves(Place::Agents(with_agent(alloc, header, seed)?))),
-                None => Ok(UNKNOWN),
-            },
-        _ => Ok(UNKNOWN),
+        [number, mode, seed] => next_agent(alloc, header, number, mode, seed),
+        _ => Ok(Err(BadKind::Word)),
     }
 }
 
-/// What a line says at a place.
-pub fn said(alloc: Global, place: &Place, line: &[u8]) -> Result<Said, Memory>
-    requires { IsPlace place.now }
-    ensures value { IfOk result (λ said. said ≡ said_of place.now line.now) }
-    ensures fits { IfOk result (λ said. IsSaidAt place.now said) }
+/// The header with the agent that three words state, if its number is the next one.
+fn next_agent(
+    alloc: Global,
+    header: &Header,
+    number: &[u8],
+    mode_word: &[u8],
+    seed_word: &[u8],
+) -> Result<Form<Header>, Memory>
+    ensures value { IfOk result (λ form. form ≡ agent_line header.now (number.now ∷ mode_word.now ∷ seed_word.now ∷ [])) }
+    ensures longer { IfOk result (λ form. IfOk form (λ longer. IsWithOneMore header.now longer)) }
 {
-    let next = match place {
-        Place::Version => header_number(alloc, b"scfs", 1, 1, line)?.map(|_| Place::Faults),
-        Place::Faults => header_number(alloc, b"f", 1, 3, line)?.map(|f| Place::Lease(f as u8)),
-        Place::Lease(f) => header_number(alloc, b"lease", 1, 1_000_000_000, line)?.map(
-            |lease| Place::Stale(*f, lease),
-        ),
-        Place::Stale(f, lease) => header_number(alloc, b"stale", 0, 0, line)?.map(
-            |stale| first_agents(alloc, *f, *lease, stale),
-        ),
-        Place::Agents(header) => return agent_line(alloc, header, words(alloc, line)?.as_slice()),
-        Place::Events(header) => return event(alloc, header, words(alloc, line)?.as_slice()),
-    };
-    Ok(next.map_or(UNKNOWN, Said::Moves))
+    let next = header.agents.len() as u64;
+    if let Err(kind) = number_within(next, next, number) {
+        return Ok(Err(kind));
+    }
+    match (mode(mode_word), seed(seed_word)) {
+        (Ok(mode), Ok(seed)) => {
+            let longer = with_agent(alloc, header, mode, seed)?;
+            Ok(Ok(longer))
+        }
+        (Err(kind), _) => Ok(Err(kind)),
+        (Ok(_), Err(kind)) => Ok(Err(kind)),
+    }
 }
 
-fn first_agents(alloc: Global, f: u8, lease: u64, stale: u64) -> Place
-    ensures { result ≡ Place.Agents (record { f = f; lease = lease; stale = stale; agents = [] }) }
+/// What the words of a line in the agents' place say.
+fn agents_line(alloc: Global, header: &Header, words: &[&[u8]]) -> Result<Said, Memory>
+    requires { IsPlace (Place.Agents header.now) }
+    ensures value { IfOk result (λ said. said ≡ agents_said header.now (map (λ w. w.now) words.now)) }
+    ensures fits { IfOk result (λ said. IsSaidAt (Place.Agents header.now) said) }
 {
-    Place::Agents(Header {
-        f,
-        lease,
-        stale,
-        agents: Sequence::new(alloc),
-    })
+    let [word, words @ ..] = words else {
+        return Ok(Said::Wrong(BadKind::Order));
+    };
+    let count = header.agents.len();
+    if *word == b"agent".as_slice() && count < 8 {
+        return match agent_line(alloc, header, words)? {
+            Ok(header) => Ok(Said::Moves(Place::Agents(header))),
+            Err(kind) => Ok(Said::Wrong(kind)),
+        };
+    }
+    if *word == b"begin".as_slice() && count >= 1 {
+        return begin_line(alloc, header, words);
+    }
+    Ok(Said::Wrong(BadKind::Order))
+}
+
+fn begin_line(alloc: Global, header: &Header, words: &[&[u8]]) -> Result<Said, Memory>
+    ensures { IfOk result (λ said. said ≡ begin_said header.now (map (λ w. w.now) words.now)) }
+{
+    if words.is_empty() {
+        Ok(Said::Begins(header.copy(alloc)?))
+    } else {
+        Ok(Said::Wrong(BadKind::Word))
+    }
+}
+
+fn version_line(alloc: Global, line: &[u8]) -> Result<Said, Memory>
+    ensures value { IfOk result (λ said. said ≡ said_of false Place.Version line.now) }
+    ensures fits { IfOk result (λ said. IsSaidAt Place.Version said) }
+{
+    match header_number(alloc, b"scfs", 1, 1, line)? {
+        Ok(_) => Ok(Said::Moves(Place::Faults)),
+        Err(kind) => Ok(Said::Wrong(kind)),
+    }
+}
+
+fn faults_line(alloc: Global, line: &[u8]) -> Result<Said, Memory>
+    ensures value { IfOk result (λ said. said ≡ said_of false Place.Faults line.now) }
+    ensures fits { IfOk result (λ said. IsSaidAt Place.Faults said) }
+{
+    match header_number(alloc, b"f", 1, 3, line)? {
+        Ok(f) => Ok(Said::Moves(Place::Lease(f as u8))),
+        Err(kind) => Ok(Said::Wrong(kind)),
+    }
+}
+
+fn lease_line(alloc: Global, f: u8, line: &[u8]) -> Result<Said, Memory>
+    requires { IsPlace (Place.Lease f) }
+    ensures value { IfOk result (λ said. said ≡ said_of false (Place.Lease f) line.now) }
+    ensures fits { IfOk result (λ said. IsSaidAt (Place.Lease f) said) }
+{
+    match header_number(alloc, b"lease", 1, 1_000_000_000, line)? {
+        Ok(lease) => Ok(Said::Moves(Place::Stale(f, lease))),
+        Err(kind) => Ok(Said::Wrong(kind)),
+    }
+}
+
+fn stale_line(alloc: Global, f: u8, lease: u64, line: &[u8]) -> Result<Said, Memory>
+    requires { IsPlace (Place.Stale f lease) }
+    ensures value { IfOk result (λ said. said ≡ said_of false (Place.Stale f lease) line.now) }
+    ensures fits { IfOk result (λ said. IsSaidAt (Place.Stale f lease) said) }
+{
+    match header_number(alloc, b"stale", 0, 1_000_000_000, line)? {
+        Ok(stale) => Ok(Said::Moves(Place::Agents(Header {
+            f,
+            lease,
+            stale,
+            agents: Sequence::new(alloc),
+        }))),
+        Err(kind) => Ok(Said::Wrong(kind)),
+    }
+}
+
+/// What a line says at a place of a schedule or a script.
+pub fn said(alloc: Global, script: bool, place: &Place, line: &[u8]) -> Result<Said, Memory>
+    requires { IsPlace place.now }
+    ensures value { IfOk result (λ said. said ≡ said_of script place.now line.now) }
+    ensures fits { IfOk result (λ said. IsSaidAt place.now said) }
+{
+    match place {
+        Place::Version => version_line(alloc, line),
+        Place::Faults => faults_line(alloc, line),
+        Place::Lease(f) => lease_line(alloc, *f, line),
+        Place::Stale(f, lease) => stale_line(alloc, *f, *lease, line),
+        Place::Agents(header) => agents_line(alloc, header, words(alloc, line)?.as_slice()),
+        Place::Events(header) => event_line(alloc, script, header, words(alloc, line)?.as_slice()),
+    }
+}
+
+/// The event that a line without its byte 0a states under a header, or why it states none.
+pub fn read_event(
+    alloc: Global,
+    header: &Header,
+    line: &[u8],
+) -> Result<Result<Event, BadKind>, Memory>
+    requires { IsHeader header.now }
+    ensures value { IfOk result (λ form. form ≡ event_of header.now (words_of line.now)) }
+    ensures fits { IfOk result (λ form. IfOk form (λ event. IsEvent header.now event)) }
+{
+    let words = words(alloc, line)?;
+    match words.as_slice() {
+        [word, words @ ..] => event_named(alloc, header, word, words),
+        [] => Ok(Err(BadKind::Word)),
+    }
 }

@@ -1,100 +1,61 @@
-ghost use Rattle.std.specs.Prelude.{◌≡◌, ℕ, ◌+◌, ◌<◌, ◌≤◌, List, [], ◌∷◌, ◌++◌, length, take, drop, Some, None, ◌-◌, ◌||◌, nat_lt, IfOk, IfErr, OnOk, IsSome, MatchOption};
-ghost use Rattle.scfs_base.specs.Pieces.{pieces, CutsAt};
-ghost use Rattle.scfs_schedule.specs.Lines.{HoldsNoLine, EndsBehindHeader, CutsLine, Goes};
-ghost use Rattle.scfs_schedule.specs.Places.{IsPlace};
+ghost use Rattle.std.specs.Prelude.{◌≡◌, ℕ, ◌+◌, ◌<◌, ◌≤◌, List, [], ◌++◌, length, Some, None, IfOk, IfErr, OnOk, IsSome};
+ghost use Rattle.scfs_schedule.specs.Holding.{HoldsNoLine};
+ghost use Rattle.scfs_schedule.specs.Lines.{EndsBehindHeader, Finds, Goes};
+ghost use Rattle.scfs_schedule.specs.Places.{IsBehind, IsPlace};
 ghost use Rattle.scfs_schedule.specs.Reading.{unread, gives, Gives, IsDrained, stop_of};
+ghost use Rattle.scfs_schedule.specs.declared.limits.TheConstants.{INPUT_LIMIT, LINE_LIMIT};
 
 use crate::grammar::said;
-use crate::progress::Progress;
+use crate::held::Held;
+use crate::progress::{FirstLine, Found, Progress};
 use crate::{Bad, BadKind, Ending, INPUT_LIMIT, Item, Place, Said, Stop, Which};
-use scfs_base::{Memory, cut};
+use scfs_base::Memory;
 use std::alloc::Global;
 use std::marker::Model;
 
-/// Reads a schedule that comes in pieces of any lengths, at most `INPUT_LIMIT` bytes of it.
+/// Reads a schedule that comes in pieces of any lengths, at most `INPUT_LIMIT` bytes of it and at most
+/// `LINE_LIMIT` bytes of a line. A script may have only the events `call`, `turn`, `tick`, `crash` and `start`.
 #[derive(Drop)]
 pub struct Reader {
     alloc: Global,
-    /// The bytes taken that were not dropped yet.
-    text: Vec<u8>,
-    /// How many of them were read.
-    at: usize,
-    /// How many of those behind it are known to hold no line.
-    clear: usize,
-    room: usize,
-    longer: bool,
+    script: bool,
+    held: Held,
     lines: u64,
     place: Place,
     ending: Option<Ending>,
 }
 
 impl Model for Reader {
-    ghost use Rattle.std.specs.Prelude.{◌≤◌, length, drop};
     ghost use Rattle.scfs_schedule.specs.Reading.{Reading};
     ghost use Rattle.scfs_schedule.specs.Lines.{Keeps};
 
     ghost Value = { Reading };
 
     ghost view = { λ r. record {
+      script = r.script;
       place = r.place;
       lines = r.lines;
-      rest = drop r.at r.text.items;
-      room = r.room;
-      longer = r.longer;
+      rest = r.held.rest;
+      room = r.held.room;
+      longer = r.held.longer;
       ending = r.ending;
     } };
 
-    ghost invariant = { λ r. (r.at ≤ length r.text.items) × Keeps (drop r.at r.text.items) r.clear r.lines r.room r.longer r.place r.ending };
-}
-
-/// Drops the first bytes.
-fn drop_front(text: &mut Vec<u8>, count: usize)
-    requires { count ≤ length text.old.items }
-    ensures { text.new.items ≡ drop count text.old.items }
-{
-    let left = text.len() - count;
-    text.rotate_left(count);
-    text.truncate(left);
-}
-
-/// The length of the first line, of which the first `clear` bytes are known to hold no line.
-fn first_line(held: &[u8], clear: usize) -> Option<usize>
-    requires within { clear ≤ length held.now }
-    requires no_line { HoldsNoLine (take clear held.now) }
-    ensures cut { MatchOption result (HoldsNoLine held.now) (λ n. CutsAt 10 held.now (take n held.now) (drop (n + 1) held.now)) }
-    ensures within { MatchOption result (clear ≤ length held.now) (λ n. n < length held.now) }
-{
-    match cut(&held[clear..], b'\n') {
-        Some((front, _)) => Some(clear + front.len()),
-        None => None,
-    }
+    ghost invariant = { λ r. Keeps r.held r.lines r.place r.ending };
 }
 
 impl Reader {
-    /// A reader at the beginning of a text.
-    pub fn new(alloc: Global) -> Reader
-        ensures { result ≡ unread }
+    /// A reader at the beginning of a schedule or a script.
+    pub fn new(alloc: Global, script: bool) -> Reader
+        ensures { result ≡ unread script }
     {
         Reader {
             alloc,
-            text: Vec::new(alloc),
-            at: 0,
-            clear: 0,
-            room: INPUT_LIMIT,
-            longer: false,
+            script,
+            held: Held::new(alloc, INPUT_LIMIT),
             lines: 0,
             place: Place::Version,
             ending: None,
-        }
-    }
-
-    /// Drops what was read, once it is at least as much as what is left, so that each byte is moved at most once on average.
-    fn forget_read(&mut self)
-        ensures { self.new ≡ self.old }
-    {
-        if self.at >= self.text.len() - self.at {
-            drop_front(&mut self.text, self.at);
-            self.at = 0;
         }
     }
 
@@ -111,70 +72,66 @@ impl Reader {
         if self.ending.is_some() {
             return Ok(());
         }
-        self.forget_read();
-        self.take(piece)
-    }
-
-    /// Takes a piece as it comes.
-    fn take(&mut self, piece: &[u8]) -> Result<(), Stop>
-        ensures ok { OnOk result (self.new ≡ record self.old {
-          rest = self.old.rest ++ take self.old.room piece.now;
-          room = self.old.room - length piece.now;
-          longer = self.old.longer || nat_lt self.old.room (length piece.now);
-        }) }
-        ensures held { OnOk result (length self.new.rest ≤ length self.old.rest + length piece.now) }
-        ensures memory { IfErr result (λ stop. stop ≡ Stop.Memory) }
-    {
-        let taken = piece.len().min(self.room);
-        self.text
-            .extend_from_slice(&piece[..taken])
-            .map_err(Memory::from)?;
-        self.room -= taken;
-        self.longer = self.longer || taken < piece.len();
+        self.held.take(piece)?;
         Ok(())
     }
 
-    /// Goes to a place of the header, or behind it.
+    /// Goes behind the line just taken off, to a place of the header or behind it.
     fn go_to(&mut self, place: Place)
         requires in_range { IsPlace place }
         requires open { self.old.ending ≡ None }
-        ensures { self.new ≡ record self.old { place = place } }
+        requires numbered { IsBehind place (self.old.lines + 1) }
+        requires counted { self.old.lines + (length self.old.rest + self.old.room) < INPUT_LIMIT }
+        ensures { self.new ≡ record self.old { place = place; lines = self.old.lines + 1 } }
     {
         self.place = place;
+        self.lines += 1;
     }
 
-    /// Ends the text.
-    fn end_with(&mut self, ending: Ending)
-        requires { EndsBehindHeader (Some ending) self.old.place }
-        ensures { self.new ≡ record self.old { ending = Some ending } }
+    /// Goes behind the event's line just taken off.
+    fn pass_line(&mut self)
+        requires open { self.old.ending ≡ None }
+        requires numbered { IsBehind self.old.place (self.old.lines + 1) }
+        requires counted { self.old.lines + (length self.old.rest + self.old.room) < INPUT_LIMIT }
+        ensures { self.new ≡ record self.old { lines = self.old.lines + 1 } }
     {
+        self.lines += 1;
+    }
+
+    /// Ends the text with the line just taken off.
+    fn end_with(&mut self, ending: Ending)
+        requires place { EndsBehindHeader (Some ending) self.old.place }
+        requires counted { self.old.lines + (length self.old.rest + self.old.room) < INPUT_LIMIT }
+        ensures { self.new ≡ record self.old { lines = self.old.lines + 1; ending = Some ending } }
+    {
+        self.lines += 1;
         self.ending = Some(ending);
     }
 
-    /// Cuts off the next whole line and gives what it says at the reader's place.
-    fn cut_line(&mut self) -> Result<Option<Said>, Memory>
+    /// Takes off the next whole line and gives what it says at the reader's place.
+    fn cut_line(&mut self) -> Result<Found, Memory>
         requires { self.old.ending ≡ None }
-        ensures { IfOk result (λ said. CutsLine said self.old self.new) }
+        ensures { IfOk result (λ found. Finds found self.old self.new) }
     {
-        let held = &self.text.as_slice()[self.at..];
-        let Some(length) = first_line(held, self.clear) else {
-            self.clear = held.len();
-            return Ok(None);
+        let count = match self.held.first() {
+            FirstLine::Unfinished => return Ok(Found::NoLine),
+            FirstLine::TooLong => return Ok(Found::LongLine),
+            FirstLine::Whole(count) => count,
         };
-        let said = said(self.alloc, &self.place, &held[..length])?;
-        self.at += length + 1;
-        self.clear = 0;
-        self.lines += 1;
-        Ok(Some(said))
+        let said = said(self.alloc, self.script, &self.place, self.held.front(count))?;
+        self.held.drop_line(count);
+        Ok(Found::Line(said))
     }
 
     /// Reads one line.
-    fn line(&mut self) -> Result<Progress, Stop>
+    fn read_line(&mut self) -> Result<Progress, Stop>
         requires { self.old.ending ≡ None }
         ensures { Goes result self.old self.new }
     {
-        let Some(said) = self.cut_line()? else {
-            return Ok(Progress::Nothing);
+        let said = match self.cut_line()? {
+            Found::NoLine => return Ok(Progress::Nothing),
+            Found::LongLine => return Err(self.stop_too_large(Which::Line)),
+            Found::Line(said) => said,
         };
         match said {
             Said::Moves(place) => {
@@ -185,34 +142,52 @@ impl Reader {
                 self.go_to(Place::Events(header.copy(self.alloc)?));
                 Ok(Progress::Gave(Item::Header(header)))
             }
-            Said::Says(event) => Ok(Progress::Gave(Item::Event(event))),
+            Said::Says(event) => {
+                self.pass_line();
+                Ok(Progress::Gave(Item::Event(event)))
+            }
             Said::Ends => {
                 self.end_with(Ending::Ended);
                 Ok(Progress::Gave(Item::End))
             }
-            Said::Wrong(kind) => {
-                let stop = Stop::Bad(Bad {
-                    line: self.lines,
-                    kind,
-                });
-                self.end_with(Ending::Stopped(stop));
-                Err(stop)
-            }
+            Said::Wrong(kind) => Err(self.stop_bad(kind)),
         }
+    }
+
+    /// Stops the reader at the line just taken off, which is not allowed.
+    fn stop_bad(&mut self, kind: BadKind) -> Stop
+        requires { self.old.lines + (length self.old.rest + self.old.room) < INPUT_LIMIT }
+        ensures stop { result ≡ Stop.Bad (record { line = self.old.lines + 1; kind = kind }) }
+        ensures ending { self.new ≡ record self.old { lines = self.old.lines + 1; ending = Some (Ending.Stopped result) } }
+    {
+        let stop = Stop::Bad(Bad {
+            line: self.lines + 1,
+            kind,
+        });
+        self.end_with(Ending::Stopped(stop));
+        stop
+    }
+
+    /// Stops the reader at a limit.
+    fn stop_too_large(&mut self, which: Which) -> Stop
+        ensures stop { result ≡ Stop.TooLarge which }
+        ensures ending { self.new ≡ record self.old { ending = Some (Ending.Stopped (Stop.TooLarge which)) } }
+    {
+        self.ending = Some(Ending::Stopped(Stop::TooLarge(which)));
+        Stop::TooLarge(which)
     }
 
     /// What is given where no whole line is held.
     fn wait(&mut self) -> Result<Option<Item>, Stop>
         requires open { self.old.ending ≡ None }
         requires no_line { HoldsNoLine self.old.rest }
+        requires short { length self.old.rest ≤ LINE_LIMIT }
         ensures { Gives result self.old self.new }
     {
-        if !self.longer {
-            return Ok(None);
+        if self.held.is_longer() {
+            return Err(self.stop_too_large(Which::Input));
         }
-        let stop = Stop::TooLarge(Which::Input);
-        self.end_with(Ending::Stopped(stop));
-        Err(stop)
+        Ok(None)
     }
 
     /// The next item; `Ok(None)` where the bytes fed hold no further line. A stop is given again at each further call.
@@ -226,7 +201,7 @@ impl Reader {
             };
         }
         'lines: loop {
-            match self.line()? {
+            match self.read_line()? {
                 Progress::Nothing => return self.wait(),
                 Progress::Moved => {}
                 Progress::Gave(item) => return Ok(Some(item)),
@@ -242,11 +217,25 @@ impl Reader {
         match self.ending {
             Some(Ending::Ended) => None,
             Some(Ending::Stopped(stop)) => Some(stop),
-            None if self.longer => Some(Stop::TooLarge(Which::Input)),
+            None if self.held.is_longer() => Some(Stop::TooLarge(Which::Input)),
             None => Some(Stop::Bad(Bad {
                 line: self.lines + 1,
                 kind: BadKind::End,
             })),
         }
+    }
+
+    /// How many bytes are held that were not read yet. After `next` gave `Ok(None)` they are at most `LINE_LIMIT`.
+    pub fn held(&self) -> u64
+        ensures { result ≡ length self.now.rest }
+    {
+        self.held.len() as u64
+    }
+
+    /// The number of the line that was read last, counted from 1; 0 before the first.
+    pub fn line(&self) -> u64
+        ensures { result ≡ self.now.lines }
+    {
+        self.lines
     }
 }

@@ -1,4 +1,4 @@
-use Rattle.std.proofs.Common.{◌≡◌, map, ◌++◌, ◌∷◌, [], append_assoc, ap, ◌∙◌, sym, List, ℕ, Bor}
+use Rattle.std.proofs.Common.{map, ◌++◌, ◌∷◌, [], append_assoc, ap, ◌∙◌, sym, List, ℕ, Bor}
 use Rattle.std.proofs.lemmas.List.{map-append}
 use Rattle.scfs_base.specs.Pieces.{pieces}
 use Rattle.scfs_schedule.proofs.grammar.words.Goals as goal

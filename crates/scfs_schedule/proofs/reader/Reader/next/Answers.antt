@@ -15,7 +15,7 @@ returns-in-Some c =
     elim c.match-ending.branch [
       | in-Ended w ↦ subst (λ (x : Result (Option Item) Stop). Gives x r r) (sym w.result-is)
           (ended_before r c.self.inside.ending c.self.inside.place kept (ap (λ (r : Reading). r.place) c.self.view_is)
-          (c.in-Some.is ∙ ap (λ (e : Ending). Some e) w.in-Ended.is) c.self.invariant.1.ended)
+          (c.in-Some.is ∙ ap (λ (e : Ending). Some e) w.in-Ended.is) c.self.invariant.ended)
       | in-Stopped w ↦ subst (λ (x : Result (Option Item) Stop). Gives x r r) (sym w.result-is)
           (stays_stopped r w.in-Stopped.stop (sym kept ∙ c.in-Some.is ∙ ap (λ (e : Ending). Some e) w.in-Stopped.is))
     ]
