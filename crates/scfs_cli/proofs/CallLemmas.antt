@@ -1,11 +1,11 @@
-use Rattle.std.proofs.Common.{◌≡◌, ◌⊎◌, [], List, ℕ, sym, ap, ◌∙◌, append-nil, ⊎_elim}
+use Rattle.std.proofs.Common.{◌≡◌, false, ◌⊎◌, [], List, ℕ, sym, ap, ◌∙◌, append-nil, ⊎_elim}
 use Rattle.scfs_schedule.specs.Reading.{Reading, gives, read, unread}
 use Rattle.scfs_cli.specs.declared.closing.Filled.{Filled}
 use Rattle.scfs_cli.specs.declared.closing.Filled.TheVariants as filleds
 use Rattle.scfs_cli.specs.Edges.{Feeds}
 
 -- a new reader that was fed these bytes still gives what they say
-pub fed_whole : (first fed : Reading) (taken : List ℕ) → first ≡ unread → Feeds first fed taken → gives fed [] ≡ read taken
+pub fed_whole : (first fed : Reading) (taken : List ℕ) → first ≡ unread false → Feeds first fed taken → gives fed [] ≡ read false taken
 fed_whole first fed taken is feeds =
     sym (feeds.fed []) ∙ ap (gives first) (append-nil taken) ∙ ap (λ (r : Reading). gives r taken) is
 

@@ -1,14 +1,15 @@
 use Rattle.std.proofs.Common.{◌≡◌, ℕ, List, ◌++◌, refl, subst, Option}
 use Rattle.scfs_base.specs.Outside.{Puts}
-use Rattle.scfs_schedule.specs.declared.types.Ending.{Ending}
 use Rattle.scfs_schedule.specs.declared.types.Ending.TheVariants as endings
-use Rattle.scfs_schedule.specs.declared.types.Bad.{Bad}
 use Rattle.scfs_schedule.specs.declared.types.BadKind.{BadKind}
 use Rattle.scfs_schedule.specs.declared.types.BadKind.TheVariants as kinds
+use Rattle.scfs_schedule.specs.declared.types.Stop.{Stop}
 use Rattle.scfs_schedule.specs.declared.types.Stop.TheVariants as stops
+use Rattle.scfs_cli.specs.declared.closing.Finish.{Finish}
+use Rattle.scfs_cli.specs.declared.closing.Finish.TheVariants as finishes
 use Rattle.scfs_cli.specs.declared.closing.Filled.{Filled}
 use Rattle.scfs_cli.specs.declared.closing.Filled.TheVariants as filleds
-use Rattle.scfs_cli.specs.Closing.{bad_closing, closing_of, closing_status}
+use Rattle.scfs_cli.specs.Closing.{end_closing, bad_closing, stop_closing, closing_of, closing_status}
 use Rattle.scfs_cli.specs.declared.closing.Status.{Status}
 use Rattle.scfs_cli.specs.declared.closing.Status.TheVariants as statuses
 use Rattle.scfs_cli.specs.Headline.{GetsText, IsStatus}
@@ -25,35 +26,59 @@ text_then statuses.WriteFault a b c x y p g = then_front a b c x y p g
 text_then statuses.Memory a b c x y p g = then_front a b c x y p g
 
 -- a replayed text never ends with the line of a wrong command
-usage_bad : (bad : Bad) (kind : BadKind) (filled : Filled) → statuses.Usage ≡ closing_status (bad_closing bad kind filled) → ⊥
-usage_bad bad kinds.Unbuilt filled h = cc
-usage_bad bad kinds.End filleds.End h = cc
-usage_bad bad kinds.End filleds.Fault h = cc
-usage_bad bad kinds.End filleds.Full h = cc
-usage_bad bad kinds.End filleds.Memory h = cc
+usage_end : (line : ℕ) (filled : Filled) → statuses.Usage ≡ closing_status (end_closing line filled) → ⊥
+usage_end line filleds.End h = cc
+usage_end line filleds.Fault h = cc
+usage_end line filleds.Full h = cc
+usage_end line filleds.Memory h = cc
 
-usage_closing : (count : ℕ) (ending : Ending) (filled : Filled) → statuses.Usage ≡ closing_status (closing_of count ending filled) → ⊥
-usage_closing count endings.Ended filled h = cc
-usage_closing count (endings.Stopped (stops.Bad bad)) filled h = usage_bad bad bad.kind filled h
-usage_closing count (endings.Stopped (stops.TooLarge which)) filled h = cc
-usage_closing count (endings.Stopped stops.Memory) filled h = cc
+usage_bad : (line : ℕ) (kind : BadKind) (filled : Filled) → statuses.Usage ≡ closing_status (bad_closing line kind filled) → ⊥
+usage_bad line kinds.End filled h = usage_end line filled h
+usage_bad line kinds.Order filled h = cc
+usage_bad line kinds.Word filled h = cc
+usage_bad line kinds.Number filled h = cc
+usage_bad line kinds.Hex filled h = cc
+usage_bad line kinds.Path filled h = cc
 
-pub never_usage : (count : ℕ) (ending : Ending) (filled : Filled) (status : Status) → IsStatus status (closing_of count ending filled) → status ≡ statuses.Usage → ⊥
-never_usage count ending filled status is same = usage_closing count ending filled (subst (λ s. IsStatus s (closing_of count ending filled)) same is)
+usage_stop : (stop : Stop) (filled : Filled) → statuses.Usage ≡ closing_status (stop_closing stop filled) → ⊥
+usage_stop (stops.Bad bad) filled h = usage_bad bad.line bad.kind filled h
+usage_stop (stops.TooLarge which) filled h = cc
+usage_stop stops.Memory filled h = cc
+
+usage_closing : (count : ℕ) (finish : Finish) (filled : Filled) → statuses.Usage ≡ closing_status (closing_of count finish filled) → ⊥
+usage_closing count (finishes.Text endings.Ended) filled h = cc
+usage_closing count (finishes.Text (endings.Stopped stop)) filled h = usage_stop stop filled h
+usage_closing count (finishes.Unbuilt line) filled h = cc
+usage_closing count finishes.Events filled h = cc
+
+pub never_usage : (count : ℕ) (finish : Finish) (filled : Filled) (status : Status) → IsStatus status (closing_of count finish filled) → status ≡ statuses.Usage → ⊥
+never_usage count finish filled status is same = usage_closing count finish filled (subst (λ s. IsStatus s (closing_of count finish filled)) same is)
 
 -- a read fault is told only where a read failed
-fault_bad : (bad : Bad) (kind : BadKind) (filled : Filled) → statuses.ReadFault ≡ closing_status (bad_closing bad kind filled) → filled ≡ filleds.Fault
-fault_bad bad kinds.Unbuilt filled h = cc
-fault_bad bad kinds.End filleds.End h = cc
-fault_bad bad kinds.End filleds.Fault h = refl
-fault_bad bad kinds.End filleds.Full h = cc
-fault_bad bad kinds.End filleds.Memory h = cc
+fault_end : (line : ℕ) (filled : Filled) → statuses.ReadFault ≡ closing_status (end_closing line filled) → filled ≡ filleds.Fault
+fault_end line filleds.End h = cc
+fault_end line filleds.Fault h = refl
+fault_end line filleds.Full h = cc
+fault_end line filleds.Memory h = cc
 
-fault_closing : (count : ℕ) (ending : Ending) (filled : Filled) → statuses.ReadFault ≡ closing_status (closing_of count ending filled) → filled ≡ filleds.Fault
-fault_closing count endings.Ended filled h = cc
-fault_closing count (endings.Stopped (stops.Bad bad)) filled h = fault_bad bad bad.kind filled h
-fault_closing count (endings.Stopped (stops.TooLarge which)) filled h = cc
-fault_closing count (endings.Stopped stops.Memory) filled h = cc
+fault_bad : (line : ℕ) (kind : BadKind) (filled : Filled) → statuses.ReadFault ≡ closing_status (bad_closing line kind filled) → filled ≡ filleds.Fault
+fault_bad line kinds.End filled h = fault_end line filled h
+fault_bad line kinds.Order filled h = cc
+fault_bad line kinds.Word filled h = cc
+fault_bad line kinds.Number filled h = cc
+fault_bad line kinds.Hex filled h = cc
+fault_bad line kinds.Path filled h = cc
 
-pub read_fault : (count : ℕ) (ending : Ending) (filled : Filled) (status : Status) → IsStatus status (closing_of count ending filled) → status ≡ statuses.ReadFault → filled ≡ filleds.Fault
-read_fault count ending filled status is same = fault_closing count ending filled (subst (λ s. IsStatus s (closing_of count ending filled)) same is)
+fault_stop : (stop : Stop) (filled : Filled) → statuses.ReadFault ≡ closing_status (stop_closing stop filled) → filled ≡ filleds.Fault
+fault_stop (stops.Bad bad) filled h = fault_bad bad.line bad.kind filled h
+fault_stop (stops.TooLarge which) filled h = cc
+fault_stop stops.Memory filled h = cc
+
+fault_closing : (count : ℕ) (finish : Finish) (filled : Filled) → statuses.ReadFault ≡ closing_status (closing_of count finish filled) → filled ≡ filleds.Fault
+fault_closing count (finishes.Text endings.Ended) filled h = cc
+fault_closing count (finishes.Text (endings.Stopped stop)) filled h = fault_stop stop filled h
+fault_closing count (finishes.Unbuilt line) filled h = cc
+fault_closing count finishes.Events filled h = cc
+
+pub read_fault : (count : ℕ) (finish : Finish) (filled : Filled) (status : Status) → IsStatus status (closing_of count finish filled) → status ≡ statuses.ReadFault → filled ≡ filleds.Fault
+read_fault count finish filled status is same = fault_closing count finish filled (subst (λ s. IsStatus s (closing_of count finish filled)) same is)

@@ -3,34 +3,38 @@ use Rattle.std.specs.List.{All}
 use Rattle.std.proofs.lemmas.List.{map-append}
 use Rattle.scfs_base.specs.declared.naming.FileId.{FileId}
 use Rattle.scfs_schedule.specs.declared.types.Call.{Call}
-use Rattle.scfs_schedule.specs.declared.types.Call.TheVariants as calls
 use Rattle.scfs_schedule.specs.declared.types.Line.{Line}
 use Rattle.scfs_tuples.specs.Steps.{IsStep}
 use Rattle.scfs_tuples.specs.After.{reply_of, left_after}
 use Rattle.scfs_tuples.specs.declared.types.StepResult.{StepResult}
 use Rattle.scfs_tuples.specs.declared.types.Tuple.{Tuple}
 use Rattle.scfs_model.specs.Tree.{Node, Change, Create, Look, outcome, create_outcome, look_outcome, node_at, root}
-use Rattle.scfs_model.specs.Agents.{Agent, Asked, Replied, agent_served, served_nodes, served_lines, served_line}
+use Rattle.scfs_model.specs.Agents.{Agent, Asked, Replied, change_of, agent_served, served_nodes, served_lines, served_line}
 use Rattle.scfs_cli.specs.Steps.{node_tuple, step_of}
-use Rattle.scfs_cli.specs.Actors.{StandsFor, FitsChange, FitsOutcome, Waits, actor_of, ask_of, told_of, result_for}
+use Rattle.scfs_cli.specs.Actors.{StandsFor, IsAsked, IsOutcome, FitsChange, FitsOutcome, Waits, actor_of, ask_of, told_of, result_for}
 use Rattle.scfs_cli.specs.declared.actor.Actor.{Actor}
 use Rattle.scfs_cli.specs.declared.actor.Ask.{Ask}
 use Rattle.scfs_cli.proofs.TreeLemmas.{space_result, space_left}
 
-create_fits : (a files : ℕ) (path : List ℕ) (id : FileId) (name : List ℕ) (o : Option Node) → FitsChange a files (calls.Create path) (Create name id) → FitsOutcome a files (calls.Create path) (create_outcome id o)
-create_fits a files path id name None h = h
-create_fits a files path id name (Some n) h = tt
+create_fits : (asked : List ℕ) (drawn id : FileId) (o : Option Node) → id ≡ drawn → IsOutcome (Some (Create asked drawn)) (create_outcome id o)
+create_fits asked drawn id None h = h
+create_fits asked drawn id (Some n) h = tt
 
-look_fits : (a files : ℕ) (path : List ℕ) (o : Option Node) → FitsOutcome a files (calls.Stat path) (look_outcome o)
-look_fits a files path None = tt
-look_fits a files path (Some n) = tt
+look_fits : (asked : List ℕ) (o : Option Node) → IsOutcome (Some (Look asked)) (look_outcome o)
+look_fits asked None = tt
+look_fits asked (Some n) = tt
+
+-- what comes of the change that is asked
+comes : (asked : Option Change) (change : Change) (nodes : List Node) → IsAsked asked change → IsOutcome asked (outcome nodes change)
+comes None change nodes h = absurd h
+comes (Some (Create asked drawn)) (Create name id) nodes h = create_fits asked drawn id (node_at nodes root name) h
+comes (Some (Create asked drawn)) (Look name) nodes h = absurd h
+comes (Some (Look asked)) (Create name id) nodes h = absurd h
+comes (Some (Look asked)) (Look name) nodes h = look_fits asked (node_at nodes root name)
 
 -- what comes of the change that a call asks fits the call
 outcome_fits : (a files : ℕ) (call : Call) (change : Change) (nodes : List Node) → FitsChange a files call change → FitsOutcome a files call (outcome nodes change)
-outcome_fits a files (calls.Create path) (Create name id) nodes h = create_fits a files path id name (node_at nodes root name) h
-outcome_fits a files (calls.Create path) (Look name) nodes h = absurd h
-outcome_fits a files (calls.Stat path) (Create name id) nodes h = absurd h
-outcome_fits a files (calls.Stat path) (Look name) nodes h = look_fits a files path (node_at nodes root name)
+outcome_fits a files call change nodes h = comes (change_of a files call) change nodes h
 
 waits_served : (a files : ℕ) (call : Option Call) (ask : Asked) (asked : List Asked) (replied : List Replied) (nodes : List Node) → Waits a files call (ask ∷ asked) replied → Waits a files call asked (replied ++ (record { request = ask.request; outcome = outcome nodes ask.change }) ∷ [])
 waits_served a files None ask asked replied nodes h = absurd h

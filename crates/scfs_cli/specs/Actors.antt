@@ -1,13 +1,12 @@
 use Rattle.std.specs.Prelude.{◌≡◌, ℕ, ◌≤◌, List, [], ◌∷◌, Option, Some, None, map, All}
 use Rattle.scfs_schedule.specs.declared.types.Call.{Call}
-use Rattle.scfs_schedule.specs.declared.types.Call.TheVariants as calls
 use Rattle.scfs_tuples.specs.Steps.{IsStep}
 use Rattle.scfs_tuples.specs.declared.types.Field.{Field}
 use Rattle.scfs_tuples.specs.declared.types.Field.TheVariants as fields
 use Rattle.scfs_tuples.specs.declared.types.StepResult.{StepResult}
 use Rattle.scfs_tuples.specs.declared.types.StepResult.TheVariants as results
 use Rattle.scfs_model.specs.Tree.{Node, Change, Create, Look, Outcome, Made, Taken, Seen, Missing}
-use Rattle.scfs_model.specs.Agents.{Asked, Replied, Agent, file_id}
+use Rattle.scfs_model.specs.Agents.{Asked, Replied, Agent, change_of}
 use Rattle.scfs_cli.specs.Steps.{node_tuple, step_of, kind_number}
 use Rattle.scfs_cli.specs.declared.actor.Ask.{Ask}
 use Rattle.scfs_cli.specs.declared.actor.Told.{Told}
@@ -41,23 +40,33 @@ actor_of agent =
       replied = map told_of agent.replied;
     }
 
+-- a change is the one that is asked
+abbrev pub IsAsked : Option Change → Change → Type 0
+IsAsked None change = ⊥
+IsAsked (Some (Create asked drawn)) (Create name id) = id ≡ drawn
+IsAsked (Some (Create asked drawn)) (Look name) = ⊥
+IsAsked (Some (Look asked)) (Create name id) = ⊥
+IsAsked (Some (Look asked)) (Look name) = Unit {0}
+
+-- an outcome is one of the change that is asked
+abbrev pub IsOutcome : Option Change → Outcome → Type 0
+IsOutcome None outcome = ⊥
+IsOutcome (Some (Create asked drawn)) (Made id) = id ≡ drawn
+IsOutcome (Some (Create asked drawn)) (Taken node) = Unit {0}
+IsOutcome (Some (Create asked drawn)) (Seen node) = ⊥
+IsOutcome (Some (Create asked drawn)) Missing = ⊥
+IsOutcome (Some (Look asked)) (Made id) = ⊥
+IsOutcome (Some (Look asked)) (Taken node) = ⊥
+IsOutcome (Some (Look asked)) (Seen node) = Unit {0}
+IsOutcome (Some (Look asked)) Missing = Unit {0}
+
 -- a change is what this call asks, by an agent that has drawn so many file ids
 abbrev pub FitsChange : ℕ → ℕ → Call → Change → Type 0
-FitsChange a files (calls.Create path) (Create name id) = id ≡ file_id a files
-FitsChange a files (calls.Create path) (Look name) = ⊥
-FitsChange a files (calls.Stat path) (Create name id) = ⊥
-FitsChange a files (calls.Stat path) (Look name) = Unit {0}
+FitsChange a files call change = IsAsked (change_of a files call) change
 
 -- and an outcome is what came of it
 abbrev pub FitsOutcome : ℕ → ℕ → Call → Outcome → Type 0
-FitsOutcome a files (calls.Create path) (Made id) = id ≡ file_id a files
-FitsOutcome a files (calls.Create path) (Taken node) = Unit {0}
-FitsOutcome a files (calls.Create path) (Seen node) = ⊥
-FitsOutcome a files (calls.Create path) Missing = ⊥
-FitsOutcome a files (calls.Stat path) (Made id) = ⊥
-FitsOutcome a files (calls.Stat path) (Taken node) = ⊥
-FitsOutcome a files (calls.Stat path) (Seen node) = Unit {0}
-FitsOutcome a files (calls.Stat path) Missing = Unit {0}
+FitsOutcome a files call outcome = IsOutcome (change_of a files call) outcome
 
 -- with no unanswered call nothing is under way; else the call's one step is, asked or replied to
 abbrev pub Waits : ℕ → ℕ → Option Call → List Asked → List Replied → Type 0

@@ -13,6 +13,10 @@ use Rattle.scfs_cli.specs.declared.closing.LastLine.{LastLine}
 use Rattle.scfs_cli.specs.declared.closing.LastLine.TheVariants as lasts
 use Rattle.scfs_cli.specs.declared.closing.Status.{Status}
 use Rattle.scfs_cli.specs.declared.closing.Status.TheVariants as statuses
+use Rattle.scfs_cli.specs.declared.closing.LineFault.{LineFault}
+use Rattle.scfs_cli.specs.declared.closing.LineFault.TheVariants as faults
+use Rattle.scfs_cli.specs.declared.closing.Finish.{Finish}
+use Rattle.scfs_cli.specs.declared.closing.Finish.TheVariants as finishes
 use Rattle.scfs_cli.specs.declared.closing.Filled.{Filled}
 use Rattle.scfs_cli.specs.declared.closing.Filled.TheVariants as filleds
 
@@ -26,44 +30,67 @@ status_number statuses.WriteFault = 5
 status_number statuses.TooLarge = 6
 status_number statuses.Memory = 9
 
-abbrev pub kind_text : BadKind → List ℕ
-kind_text kinds.End = codes "end"
-kind_text kinds.Unbuilt = codes "unbuilt"
+-- what is wrong with a line
+abbrev pub fault_text : LineFault → List ℕ
+fault_text (faults.Bad kinds.End) = codes "end"
+fault_text (faults.Bad kinds.Order) = codes "order"
+fault_text (faults.Bad kinds.Word) = codes "word"
+fault_text (faults.Bad kinds.Number) = codes "number"
+fault_text (faults.Bad kinds.Hex) = codes "hex"
+fault_text (faults.Bad kinds.Path) = codes "path"
+fault_text faults.Unbuilt = codes "unbuilt"
 
+-- what has a limit, or failed
 abbrev pub which_text : Which → List ℕ
+which_text whichs.Events = codes "events"
 which_text whichs.Input = codes "input"
+which_text whichs.Journal = codes "journal"
+which_text whichs.Line = codes "line"
+which_text whichs.Objects = codes "objects"
+which_text whichs.Out = codes "out"
 
 abbrev pub last_line_text : LastLine → List ℕ
 last_line_text (lasts.Done events) = codes "stop 0 " ++ decimal events ++ codes "\n"
 last_line_text lasts.Usage = codes "stop 2 usage\n"
-last_line_text (lasts.BadInput bad) = codes "stop 3 input " ++ decimal bad.line ++ codes " " ++ kind_text bad.kind ++ codes "\n"
+last_line_text (lasts.BadInput line fault) = codes "stop 3 input " ++ decimal line ++ codes " " ++ fault_text fault ++ codes "\n"
 last_line_text (lasts.ReadFault which) = codes "stop 4 " ++ which_text which ++ codes "\n"
 last_line_text (lasts.TooLarge which) = codes "stop 6 " ++ which_text which ++ codes "\n"
 
 abbrev pub status_of : LastLine → Status
 status_of (lasts.Done events) = statuses.Done
 status_of lasts.Usage = statuses.Usage
-status_of (lasts.BadInput bad) = statuses.BadInput
+status_of (lasts.BadInput line fault) = statuses.BadInput
 status_of (lasts.ReadFault which) = statuses.ReadFault
 status_of (lasts.TooLarge which) = statuses.TooLarge
 
--- a bad line of this kind: that the text ends is known only where a read gave the end; a fault, or the limit, comes before
-abbrev pub bad_closing : Bad → BadKind → Filled → Option LastLine
-bad_closing bad kinds.Unbuilt filled = Some (lasts.BadInput bad)
-bad_closing bad kinds.End filleds.End = Some (lasts.BadInput bad)
-bad_closing bad kinds.End filleds.Fault = Some (lasts.ReadFault whichs.Input)
-bad_closing bad kinds.End filleds.Full = Some (lasts.TooLarge whichs.Input)
-bad_closing bad kinds.End filleds.Memory = None
+-- the text ends in this line: that is known only where a read gave the end; a fault, or the limit, comes before
+abbrev pub end_closing : ℕ → Filled → Option LastLine
+end_closing line filleds.End = Some (lasts.BadInput line (faults.Bad kinds.End))
+end_closing line filleds.Fault = Some (lasts.ReadFault whichs.Input)
+end_closing line filleds.Full = Some (lasts.TooLarge whichs.Input)
+end_closing line filleds.Memory = None
+
+-- a line that is not allowed
+abbrev pub bad_closing : ℕ → BadKind → Filled → Option LastLine
+bad_closing line kinds.End filled = end_closing line filled
+bad_closing line kinds.Order filled = Some (lasts.BadInput line (faults.Bad kinds.Order))
+bad_closing line kinds.Word filled = Some (lasts.BadInput line (faults.Bad kinds.Word))
+bad_closing line kinds.Number filled = Some (lasts.BadInput line (faults.Bad kinds.Number))
+bad_closing line kinds.Hex filled = Some (lasts.BadInput line (faults.Bad kinds.Hex))
+bad_closing line kinds.Path filled = Some (lasts.BadInput line (faults.Bad kinds.Path))
 
 abbrev pub stop_closing : Stop → Filled → Option LastLine
-stop_closing (stops.Bad bad) filled = bad_closing bad bad.kind filled
+stop_closing (stops.Bad bad) filled = bad_closing bad.line bad.kind filled
 stop_closing (stops.TooLarge which) filled = Some (lasts.TooLarge which)
 stop_closing stops.Memory filled = None
 
--- the last line of a run of so many events, by how its text ended and how reading it ended; none for want of memory
-abbrev pub closing_of : ℕ → Ending → Filled → Option LastLine
-closing_of events endings.Ended filled = Some (lasts.Done events)
-closing_of events (endings.Stopped stop) filled = stop_closing stop filled
+-- the last line of a run of so many events, by how what is played of its text ends and how reading it ended; none for want
+-- of memory
+abbrev pub closing_of : ℕ → Finish → Filled → Option LastLine
+closing_of events (finishes.Text endings.Ended) filled = Some (lasts.Done events)
+closing_of events (finishes.Text (endings.Stopped stop)) filled = stop_closing stop filled
+closing_of events (finishes.Unbuilt line) filled = Some (lasts.BadInput line faults.Unbuilt)
+closing_of events finishes.Events filled = Some (lasts.TooLarge whichs.Events)
 
 abbrev pub closing_text : Option LastLine → List ℕ
 closing_text None = []

@@ -13,6 +13,7 @@ use Rattle.scfs_cli.specs.declared.closing.Status.{Status}
 use Rattle.scfs_cli.specs.declared.closing.Status.TheVariants as statuses
 use Rattle.scfs_cli.specs.Closing.{closing_of, closing_text, closing_status}
 use Rattle.scfs_cli.specs.Edges.{GetsFront}
+use Rattle.scfs_cli.specs.Playing.{played}
 
 -- out got this text; where writing failed or memory was wanting, a front of it
 abbrev pub GetsText : Status → Option (List ℕ) → Option (List ℕ) → List ℕ → Type 0
@@ -44,17 +45,17 @@ is_replay (word ∷ next ∷ rest) = false
 abbrev pub Closes : Option LastLine → Option (List ℕ) → Option (List ℕ) → Status → Type 0
 Closes closing before after status = GetsText status before after (closing_text closing) × IsStatus status closing
 
--- The headline, of bytes taken from the input: there is a history whose events are exactly those that the grammar reads in
--- them; it is a run of the file map under the header that stands in them; and out got its transcript and then the last line,
--- which the ending of the text and of the reading decide.
+-- The headline, of bytes taken from the input: there is a history whose events are exactly those that are played of what the
+-- grammar reads in them; it is a run of the file map under the header that stands in them; and out got its transcript and then
+-- the last line, which the end of what is played and of the reading decide.
 pub record ReplaysText (taken : List ℕ) (filled : Filled) (before after : Option (List ℕ)) (status : Status) : Type 0 where
   pub header : Header
   pub past : List Entry
-  pub under : IfSome (read taken).header (λ stated. stated ≡ header)
-  pub events : events_then past [] ≡ (read taken).events
+  pub under : IfSome (played (read false taken)).header (λ stated. stated ≡ header)
+  pub events : events_then past [] ≡ (played (read false taken)).events
   pub run : Run header past
-  pub wrote : GetsText status before after (transcript past ++ closing_text (closing_of (length past) (read taken).ending filled))
-  pub decided : IsStatus status (closing_of (length past) (read taken).ending filled)
+  pub wrote : GetsText status before after (transcript past ++ closing_text (closing_of (length past) (played (read false taken)).finish filled))
+  pub decided : IsStatus status (closing_of (length past) (played (read false taken)).finish filled)
 
 -- The whole of it: so it is of the bytes taken, where the source tells them. At the end of the input nothing is left.
 pub record Replays (left left' before after : Option (List ℕ)) (filled : Filled) (status : Status) : Type 0 where

@@ -1,7 +1,8 @@
-ghost use Rattle.std.specs.Prelude.{◌≡◌, IfOk, OnOk, ◌∷◌, [], ◌<◌, ◌≤◌, ◌^◌, ◌+◌, ◌-◌, ℕ, List, drop, All};
+ghost use Rattle.std.specs.Prelude.{◌≡◌, IfOk, IfSome, OnOk, ◌∷◌, [], ◌<◌, ◌≤◌, ◌^◌, ◌+◌, ◌-◌, ℕ, List, drop, All, true};
 ghost use Rattle.scfs_tuples.specs.Steps.{IsStep};
 ghost use Rattle.scfs_model.specs.Tree.{Node, Change, Outcome, Seen, outcome, name_of};
 ghost use Rattle.scfs_model.specs.Agents.{Agent, file_id, files_drawn, change_of, called_lines, agent_called, told_line, told_lines, agent_told, served_line, new_agent};
+ghost use Rattle.scfs_cli.specs.Built.{is_built_call};
 ghost use Rattle.scfs_cli.specs.Steps.{step_of};
 ghost use Rattle.scfs_cli.specs.Actors.{FitsOutcome, IsActor, StandsFor, actor_of, result_for, seen_fields};
 
@@ -43,11 +44,13 @@ pub fn one_line(alloc: Global, line: Line) -> Result<Sequence<Line>, Memory>
 }
 
 fn copy_call(alloc: Global, call: &Call) -> Result<Call, Memory>
+    requires { is_built_call call.now ≡ true }
     ensures { IfOk result (λ copy. copy ≡ call.now) }
 {
     match call {
         Call::Create(path) => Ok(Call::Create(path.copy(alloc)?)),
         Call::Stat(path) => Ok(Call::Stat(path.copy(alloc)?)),
+        _ => unreachable!(),
     }
 }
 
@@ -76,14 +79,15 @@ fn drawn(files: u32, call: &Call) -> u32
 {
     match call {
         Call::Create(_) => files + 1,
-        Call::Stat(_) => files,
+        _ => files,
     }
 }
 
 /// The step that a call asks.
 fn step_for(alloc: Global, a: u8, files: u32, call: &Call) -> Result<Step, Memory>
-    requires { a < 8 }
-    ensures step { IfOk result (λ step. step ≡ step_of (change_of a files call.now)) }
+    requires agent { a < 8 }
+    requires built { is_built_call call.now ≡ true }
+    ensures step { IfOk result (λ step. IfSome (change_of a files call.now) (λ change. step ≡ step_of change)) }
     ensures well_formed { IfOk result (λ step. IsStep step) }
 {
     match call {
@@ -93,6 +97,7 @@ fn step_for(alloc: Global, a: u8, files: u32, call: &Call) -> Result<Step, Memor
             file_no(a, files),
         )?),
         Call::Stat(path) => Ok(steps::look(alloc, name_in(path.as_slice()))?),
+        _ => unreachable!(),
     }
 }
 
@@ -143,8 +148,16 @@ fn answer(a: u8, files: u32, call: &Call, came: &StepResult) -> Line
         (Call::Create(_), StepResult::Did { .. }) => Line::OkCreate(a, file_no(a, files)),
         (Call::Create(_), StepResult::Refused { .. }) => Line::No(a, Refusal::Exists),
         (Call::Stat(_), StepResult::Did { bound, .. }) => stat_line(a, bound.as_slice()),
-        (Call::Stat(_), StepResult::Refused { .. }) => Line::No(a, Refusal::NoEntry),
+        _ => Line::No(a, Refusal::NoEntry),
     }
+}
+
+/// The answer to a call that is then over.
+fn last_answer(a: u8, files: u32, call: Call, came: &StepResult) -> Line
+    requires { a < 8 }
+    ensures { (outcome : Outcome) → FitsOutcome a files call outcome → came.now ≡ result_for outcome → result ≡ told_line a outcome }
+{
+    answer(a, files, &call, came)
 }
 
 impl Actor {
@@ -164,6 +177,7 @@ impl Actor {
     /// A user's call at agent number `a`: Busy while another is unanswered, else its step is asked.
     pub fn call(&mut self, alloc: Global, a: u8, call: &Call) -> Result<Sequence<Line>, Memory>
         requires agent { a < 8 }
+        requires built { is_built_call call.now ≡ true }
         requires files { self.old.files < 2 ^ 32 - 1 }
         requires requests { self.old.requests < 2 ^ 32 - 1 }
         ensures stands { IfOk result (λ lines. (agent : Agent) → StandsFor a self.old agent →
@@ -198,7 +212,7 @@ impl Actor {
             return Ok(one_line(alloc, Line::Skip)?);
         };
         match self.call.take() {
-            Some(call) => Ok(one_line(alloc, answer(a, self.files, &call, &told.result))?),
+            Some(call) => Ok(one_line(alloc, last_answer(a, self.files, call, &told.result))?),
             None => Ok(Sequence::new(alloc)),
         }
     }

@@ -1,4 +1,4 @@
-ghost use Rattle.std.specs.Prelude.{◌≡◌, ◌<◌, ◌^◌, ◌-◌, List, ℕ, [], Some, true, false, length, map, string_bytes};
+ghost use Rattle.std.specs.Prelude.{◌≡◌, List, ℕ, [], Some, true, false, map, string_bytes};
 ghost use Rattle.scfs_base.specs.Outside.{Rose};
 ghost use Rattle.scfs_schedule.specs.Reading.{IsAtEvents, gives, read};
 ghost use Rattle.scfs_cli.specs.Headline.{Closes, ReplaysInput, ReplaysText, is_replay};
@@ -28,15 +28,14 @@ fn close<O: Sink>(alloc: Global, last: LastLine, out: &mut O) -> Status
 
 /// Plays what was read, and writes the last line.
 fn finish<O: Sink>(alloc: Global, reader: &mut Reader, filled: Filled, out: &mut O) -> Status
-    requires room { length reader.old.rest < 2 ^ 32 - 1 }
-    requires place { (header : Header) → ¬ IsAtEvents reader.old header }
-    ensures replays { (taken : List ℕ) → gives reader.old [] ≡ read taken → ReplaysText taken filled (O.written out.old) (O.written out.new) result }
+    requires { (header : Header) → ¬ IsAtEvents reader.old header }
+    ensures replays { (taken : List ℕ) → gives reader.old [] ≡ read false taken → ReplaysText taken filled (O.written out.old) (O.written out.new) result }
     ensures fault { result ≡ Status.WriteFault → Rose (O.faults out.old) (O.faults out.new) }
 {
     match play(alloc, reader, out) {
         Played::WriteFault => Status::WriteFault,
         Played::Memory => Status::Memory,
-        Played::Ended(events, ending) => match closing_line(events, ending, filled) {
+        Played::Ended(events, finish) => match closing_line(events, finish, filled) {
             Some(last) => close(alloc, last, out),
             None => Status::Memory,
         },
@@ -49,7 +48,7 @@ fn replay<I: Source, O: Sink>(alloc: Global, input: &mut I, out: &mut O) -> Stat
         (I.ends input.old) (I.ends input.new) (I.faults input.old) (I.faults input.new) result }
     ensures fault { result ≡ Status.WriteFault → Rose (O.faults out.old) (O.faults out.new) }
 {
-    let mut reader = Reader::new(alloc);
+    let mut reader = Reader::new(alloc, false);
     let filled = fill(input, &mut reader);
     match filled {
         Filled::Memory => Status::Memory,

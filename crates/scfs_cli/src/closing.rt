@@ -1,5 +1,5 @@
 ghost use Rattle.std.specs.Prelude.{◌≡◌, Some, IfOk, MatchOption};
-ghost use Rattle.scfs_cli.specs.Closing.{closing_of, kind_text, last_line_text, status_number, status_of, which_text};
+ghost use Rattle.scfs_cli.specs.Closing.{closing_of, stop_closing, fault_text, last_line_text, status_number, status_of, which_text};
 
 use scfs_base::{Bytes, Memory};
 use scfs_schedule::{Bad, BadKind, Ending, Stop, Which};
@@ -14,6 +14,24 @@ pub enum Filled {
     Fault,
     Full,
     Memory,
+}
+
+/// How what is played of a text ends.
+#[derive(Clone, Copy, Debug, PartialEq, Eq)]
+pub enum Finish {
+    /// As the text does.
+    Text(Ending),
+    /// At the line of this number, which asks what the program can't do yet.
+    Unbuilt(u64),
+    /// Before the first event past the limit.
+    Events,
+}
+
+/// What is wrong with a line: it is not allowed, or it asks what the program can't do yet.
+#[derive(Clone, Copy, Debug, PartialEq, Eq)]
+pub enum LineFault {
+    Bad(BadKind),
+    Unbuilt,
 }
 
 /// How the program ends.
@@ -45,27 +63,32 @@ impl Status {
     }
 }
 
-/// The last line of an output. `Done` has the number of events.
+/// The last line of an output. `Done` has the number of events, `BadInput` the number of the line.
 #[derive(Clone, Copy, Debug, PartialEq, Eq)]
 pub enum LastLine {
     Done(u64),
     Usage,
-    BadInput(Bad),
+    BadInput(u64, LineFault),
     ReadFault(Which),
     TooLarge(Which),
 }
 
-/// A kind of bad line by its word.
+/// What is wrong with a line by its word.
 #[derive(Clone, Copy)]
-struct KindWord(BadKind);
+struct FaultWord(LineFault);
 
-impl fmt::Display for KindWord {
-    ghost output = { λ word. Some (kind_text word.0) };
+impl fmt::Display for FaultWord {
+    ghost output = { λ word. Some (fault_text word.0) };
 
     fn fmt<W: fmt::Write>(&self, f: &mut fmt::Formatter<W>) -> fmt::Result {
         match self.0 {
-            BadKind::End => write!(f, "end"),
-            BadKind::Unbuilt => write!(f, "unbuilt"),
+            LineFault::Bad(BadKind::End) => write!(f, "end"),
+            LineFault::Bad(BadKind::Order) => write!(f, "order"),
+            LineFault::Bad(BadKind::Word) => write!(f, "word"),
+            LineFault::Bad(BadKind::Number) => write!(f, "number"),
+            LineFault::Bad(BadKind::Hex) => write!(f, "hex"),
+            LineFault::Bad(BadKind::Path) => write!(f, "path"),
+            LineFault::Unbuilt => write!(f, "unbuilt"),
         }
     }
 }
@@ -79,7 +102,12 @@ impl fmt::Display for WhichWord {
 
     fn fmt<W: fmt::Write>(&self, f: &mut fmt::Formatter<W>) -> fmt::Result {
         match self.0 {
+            Which::Events => write!(f, "events"),
             Which::Input => write!(f, "input"),
+            Which::Journal => write!(f, "journal"),
+            Which::Line => write!(f, "line"),
+            Which::Objects => write!(f, "objects"),
+            Which::Out => write!(f, "out"),
         }
     }
 }
@@ -91,12 +119,9 @@ impl fmt::Display for LastLine {
         match self {
             LastLine::Done(events) => write!(f, "stop 0 {events}\n"),
             LastLine::Usage => write!(f, "stop 2 usage\n"),
-            LastLine::BadInput(bad) => write!(
-                f,
-                "stop 3 input {} {}\n",
-                bad.line,
-                KindWord(bad.kind)
-            ),
+            LastLine::BadInput(line, fault) => {
+                write!(f, "stop 3 input {line} {}\n", FaultWord(*fault))
+            }
             LastLine::ReadFault(which) => write!(f, "stop 4 {}\n", WhichWord(*which)),
             LastLine::TooLarge(which) => write!(f, "stop 6 {}\n", WhichWord(*which)),
         }
@@ -111,7 +136,7 @@ impl LastLine {
         match self {
             LastLine::Done(_) => Status::Done,
             LastLine::Usage => Status::Usage,
-            LastLine::BadInput(_) => Status::BadInput,
+            LastLine::BadInput(_, _) => Status::BadInput,
             LastLine::ReadFault(_) => Status::ReadFault,
             LastLine::TooLarge(_) => Status::TooLarge,
         }
@@ -126,20 +151,37 @@ impl LastLine {
     }
 }
 
-/// The last line of a run of so many events, by how its text and the reading of it ended; none for want of memory.
-pub fn closing_line(events: u64, ending: Ending, filled: Filled) -> Option<LastLine>
-    ensures { result ≡ closing_of events ending filled }
+/// The last line of a run of so many events, by how what was played of its text and the reading of it ended; none for want
+/// of memory.
+pub fn closing_line(events: u64, finish: Finish, filled: Filled) -> Option<LastLine>
+    ensures { result ≡ closing_of events finish filled }
 {
-    match ending {
-        Ending::Ended => Some(LastLine::Done(events)),
-        Ending::Stopped(Stop::TooLarge(which)) => Some(LastLine::TooLarge(which)),
-        Ending::Stopped(Stop::Memory) => None,
-        Ending::Stopped(Stop::Bad(bad)) => match (bad.kind, filled) {
-            (BadKind::Unbuilt, _) => Some(LastLine::BadInput(bad)),
-            (BadKind::End, Filled::End) => Some(LastLine::BadInput(bad)),
-            (BadKind::End, Filled::Fault) => Some(LastLine::ReadFault(Which::Input)),
-            (BadKind::End, Filled::Full) => Some(LastLine::TooLarge(Which::Input)),
-            (BadKind::End, Filled::Memory) => None,
+    match finish {
+        Finish::Events => Some(LastLine::TooLarge(Which::Events)),
+        Finish::Unbuilt(line) => Some(LastLine::BadInput(line, LineFault::Unbuilt)),
+        Finish::Text(Ending::Ended) => Some(LastLine::Done(events)),
+        Finish::Text(Ending::Stopped(stop)) => stop_line(stop, filled),
+    }
+}
+
+/// The last line of a text that stopped before its line `end`.
+fn stop_line(stop: Stop, filled: Filled) -> Option<LastLine>
+    ensures { result ≡ stop_closing stop filled }
+{
+    match stop {
+        Stop::TooLarge(which) => Some(LastLine::TooLarge(which)),
+        Stop::Memory => None,
+        Stop::Bad(
+            Bad {
+                line,
+                kind: BadKind::End,
+            },
+        ) => match filled {
+            Filled::End => Some(LastLine::BadInput(line, LineFault::Bad(BadKind::End))),
+            Filled::Fault => Some(LastLine::ReadFault(Which::Input)),
+            Filled::Full => Some(LastLine::TooLarge(Which::Input)),
+            Filled::Memory => None,
         },
+        Stop::Bad(Bad { line, kind }) => Some(LastLine::BadInput(line, LineFault::Bad(kind))),
     }
 }

@@ -3,9 +3,13 @@
 #![tactic(auto)]
 
 mod actor;
+mod built;
 mod call;
 mod closing;
 mod edges;
+mod limits;
+#[cfg(test)]
+mod malformed;
 mod play;
 mod steps;
 mod streams;
@@ -15,6 +19,7 @@ mod world;
 
 use call::scfs;
 use closing::Status;
+use limits::EVENTS_LIMIT;
 use std::process::ExitCode;
 use std::{env, io};
 use streams::{Incoming, Outgoing};

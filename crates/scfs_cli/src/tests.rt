@@ -5,7 +5,7 @@ use std::alloc::Global;
 use std::process::Abort;
 use std::test::Fail;
 
-const HEADER: &str = "scfs 1\nf 1\nlease 100\nstale 0\n\
+pub const HEADER: &str = "scfs 1\nf 1\nlease 100\nstale 0\n\
     agent 0 blocking 0000000000000000000000000000000000000000000000000000000000000000\nbegin\n";
 
 const EVENTS: &str = "call 0 create /a\nspace 0\ntold 0\ncall 0 stat /a\nspace 0\ntold 0\n";
@@ -130,7 +130,7 @@ fn stops_at_a_line_that_it_does_not_know(rt: HostRuntime) -> Result<(), Fail> {
         &rt,
         unknown_call,
         Status::BadInput,
-        &["stop 3 input 7 unbuilt\n"],
+        &["stop 3 input 7 word\n"],
     )
 }
 

@@ -1,10 +1,11 @@
-ghost use Rattle.std.specs.Prelude.{◌≡◌, IfOk, OnOk, List, [], ◌∷◌, ◌<◌, ◌^◌, ◌+◌, ◌-◌, ℕ, vec_len, length, map};
+ghost use Rattle.std.specs.Prelude.{◌≡◌, IfOk, OnOk, List, [], ◌∷◌, ◌<◌, ◌^◌, ◌+◌, ℕ, vec_len, length, map, true};
 ghost use Rattle.scfs_tuples.specs.Steps.{IsStep};
 ghost use Rattle.scfs_model.specs.Tree.{Node};
 ghost use Rattle.scfs_model.specs.Agents.{Agent, agent_served, served_nodes, served_lines};
 ghost use Rattle.scfs_cli.specs.Steps.{node_tuple};
 ghost use Rattle.scfs_cli.specs.Actors.{IsActor, StandsFor};
 
+use crate::EVENTS_LIMIT;
 use crate::actor::{Actor, Told, line_of, one_line};
 use scfs_base::{Memory, Sequence};
 use scfs_schedule::{Call, Event, Header, Line};
@@ -52,6 +53,7 @@ fn serve(
 impl World {
     ghost use Rattle.scfs_schedule.specs.Grammar.{IsEvent, IsHeader};
     ghost use Rattle.scfs_schedule.specs.declared.types.Event.TheVariants as events;
+    ghost use Rattle.scfs_cli.specs.Built.{is_built_call, is_built_event};
     ghost use Rattle.scfs_cli.specs.Stands.{IsWorld, Moves, Keeps, Stands, Steps};
 
     /// The world of a header before its first event: an empty space, and agents that have asked nothing.
@@ -74,11 +76,12 @@ impl World {
         })
     }
 
-    /// One event, and the lines that it has.
+    /// One event that the program can do, and the lines that it has. There were fewer than `EVENTS_LIMIT` before.
     pub fn step(&mut self, event: &Event) -> Result<Sequence<Line>, Memory>
         requires world { IsWorld self.old }
         requires event { IsEvent self.old.header event.now }
-        requires room { self.old.events < 2 ^ 32 - 1 }
+        requires built { is_built_event event.now ≡ true }
+        requires room { self.old.events < EVENTS_LIMIT }
         ensures stands { IfOk result (λ lines. Steps self.old self.new event.now lines) }
         ensures world { OnOk result (IsWorld self.new) }
         ensures header { OnOk result (self.new.header ≡ self.old.header) }
@@ -92,7 +95,8 @@ impl World {
     fn on(&mut self, event: &Event) -> Result<Sequence<Line>, Memory>
         requires world { IsWorld self.old }
         requires event { IsEvent self.old.header event.now }
-        requires room { self.old.events < 2 ^ 32 - 1 }
+        requires built { is_built_event event.now ≡ true }
+        requires room { self.old.events < EVENTS_LIMIT }
         ensures moves { IfOk result (λ lines. Moves self.old self.new event.now lines) }
         ensures kept { OnOk result (Keeps self.old self.new) }
     {
@@ -100,13 +104,15 @@ impl World {
             Event::Call(a, call) => self.on_call(*a, call),
             Event::Space(a) => self.on_space(*a),
             Event::Told(a) => self.on_told(*a),
+            _ => unreachable!(),
         }
     }
 
     fn on_call(&mut self, a: u8, call: &Call) -> Result<Sequence<Line>, Memory>
         requires world { IsWorld self.old }
         requires agent { a < length self.old.header.agents }
-        requires room { self.old.events < 2 ^ 32 - 1 }
+        requires built { is_built_call call.now ≡ true }
+        requires room { self.old.events < EVENTS_LIMIT }
         ensures moves { IfOk result (λ lines. Moves self.old self.new (events.Call a call.now) lines) }
         ensures kept { OnOk result (Keeps self.old self.new) }
     {

@@ -68,6 +68,22 @@ event_differ : (files : Files) (event : Event) → NamesDiffer files.nodes → N
 event_differ files (events.Call a call) h = turn_differ files (slice_get files.agents a) _ h (λ agent. h)
 event_differ files (events.Space a) h = turn_differ files (slice_get files.agents a) _ h (λ agent. served_differ files.nodes agent.asked h)
 event_differ files (events.Told a) h = turn_differ files (slice_get files.agents a) _ h (λ agent. h)
+event_differ files (events.Later a) h = h
+event_differ files (events.Serve cloud) h = h
+event_differ files (events.Hide cloud) h = h
+event_differ files (events.Fail cloud) h = h
+event_differ files (events.Say cloud answer) h = h
+event_differ files (events.Give cloud) h = h
+event_differ files (events.Lose cloud) h = h
+event_differ files (events.Drop cloud) h = h
+event_differ files (events.Defer cloud) h = h
+event_differ files (events.Swap cloud) h = h
+event_differ files (events.Again cloud) h = h
+event_differ files (events.Twice cloud) h = h
+event_differ files (events.Turn a) h = h
+event_differ files (events.Tick ticks) h = h
+event_differ files (events.Crash a) h = h
+event_differ files (events.Start a) h = h
 
 pub names_always_differ : (header : Header) (past : List Entry) → NamesDiffer (files_after header past).nodes
 names_always_differ header [] = tt

@@ -42,26 +42,66 @@ request_no agent number = record { agent = agent; incarnation = 0; number = numb
 abbrev pub files_drawn : ℕ → Call → ℕ
 files_drawn files (calls.Create path) = files + 1
 files_drawn files (calls.Stat path) = files
+-- not built yet: these calls draw nothing
+files_drawn files (calls.Mkdir path) = files
+files_drawn files (calls.Rmdir path) = files
+files_drawn files (calls.Unlink path) = files
+files_drawn files (calls.List path) = files
+files_drawn files (calls.Rename path to) = files
+files_drawn files (calls.OpenR path) = files
+files_drawn files (calls.OpenW path) = files
+files_drawn files (calls.Openat path version) = files
+files_drawn files (calls.Read session offset count) = files
+files_drawn files (calls.Write session offset bytes) = files
+files_drawn files (calls.Truncate session length) = files
+files_drawn files (calls.Close session) = files
+files_drawn files calls.Sync = files
+files_drawn files (calls.Versions path) = files
+files_drawn files (calls.Collect path) = files
+files_drawn files calls.Purge = files
 
 -- what a call asks of the tree, by an agent that has drawn so many file ids
-abbrev pub change_of : ℕ → ℕ → Call → Change
-change_of agent files (calls.Create path) = Create (name_of path) (file_id agent files)
-change_of agent files (calls.Stat path) = Look (name_of path)
+abbrev pub change_of : ℕ → ℕ → Call → Option Change
+change_of agent files (calls.Create path) = Some (Create (name_of path) (file_id agent files))
+change_of agent files (calls.Stat path) = Some (Look (name_of path))
+-- not built yet: these calls ask nothing
+change_of agent files (calls.Mkdir path) = None
+change_of agent files (calls.Rmdir path) = None
+change_of agent files (calls.Unlink path) = None
+change_of agent files (calls.List path) = None
+change_of agent files (calls.Rename path to) = None
+change_of agent files (calls.OpenR path) = None
+change_of agent files (calls.OpenW path) = None
+change_of agent files (calls.Openat path version) = None
+change_of agent files (calls.Read session offset count) = None
+change_of agent files (calls.Write session offset bytes) = None
+change_of agent files (calls.Truncate session length) = None
+change_of agent files (calls.Close session) = None
+change_of agent files calls.Sync = None
+change_of agent files (calls.Versions path) = None
+change_of agent files (calls.Collect path) = None
+change_of agent files calls.Purge = None
 
 -- A call. One that comes while another is unanswered is refused as Busy and changes nothing; else its step is asked.
 abbrev pub called_lines : ℕ → Option Call → List Line
 called_lines a (Some unanswered) = lines.No a refusals.Busy ∷ []
 called_lines a None = []
 
+-- the agent with a call unanswered that asks this, and so many file ids drawn
+abbrev pub agent_asking : ℕ → Agent → Call → ℕ → Option Change → Agent
+agent_asking a agent call files None = agent
+agent_asking a agent call files (Some change) =
+    record agent {
+      call = Some call;
+      files = files;
+      requests = agent.requests + 1;
+      asked = agent.asked ++ (record { request = request_no a (agent.requests + 1); change = change }) ∷ [];
+    }
+
 abbrev pub agent_called : ℕ → Agent → Call → Option Call → Agent
 agent_called a agent call (Some unanswered) = agent
 agent_called a agent call None =
-    record agent {
-      call = Some call;
-      files = files_drawn agent.files call;
-      requests = agent.requests + 1;
-      asked = agent.asked ++ (record { request = request_no a (agent.requests + 1); change = change_of a (files_drawn agent.files call) call }) ∷ [];
-    }
+    agent_asking a agent call (files_drawn agent.files call) (change_of a (files_drawn agent.files call) call)
 
 -- The space serves an agent's oldest request: the tree decides, and the reply waits to be told.
 abbrev pub served_line : RequestNo → Outcome → Line

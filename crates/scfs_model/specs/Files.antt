@@ -27,6 +27,23 @@ abbrev pub due : Files → Event → List Line
 due files (events.Call a call) = at_agent (slice_get files.agents a) [] (λ agent. called_lines a agent.call)
 due files (events.Space a) = at_agent (slice_get files.agents a) [] (λ agent. served_lines files.nodes agent.asked)
 due files (events.Told a) = at_agent (slice_get files.agents a) [] (λ agent. told_lines a agent.replied)
+-- not built yet: these events demand nothing
+due files (events.Later a) = []
+due files (events.Serve cloud) = []
+due files (events.Hide cloud) = []
+due files (events.Fail cloud) = []
+due files (events.Say cloud answer) = []
+due files (events.Give cloud) = []
+due files (events.Lose cloud) = []
+due files (events.Drop cloud) = []
+due files (events.Defer cloud) = []
+due files (events.Swap cloud) = []
+due files (events.Again cloud) = []
+due files (events.Twice cloud) = []
+due files (events.Turn a) = []
+due files (events.Tick ticks) = []
+due files (events.Crash a) = []
+due files (events.Start a) = []
 
 -- the file map after an event
 abbrev pub after_event : Files → Event → Files
@@ -42,6 +59,23 @@ after_event files (events.Space a) =
 after_event files (events.Told a) =
     at_agent (slice_get files.agents a) files
     (λ agent. record files { agents = slice_set files.agents a (agent_told agent agent.replied) })
+-- not built yet: these events change nothing
+after_event files (events.Later a) = files
+after_event files (events.Serve cloud) = files
+after_event files (events.Hide cloud) = files
+after_event files (events.Fail cloud) = files
+after_event files (events.Say cloud answer) = files
+after_event files (events.Give cloud) = files
+after_event files (events.Lose cloud) = files
+after_event files (events.Drop cloud) = files
+after_event files (events.Defer cloud) = files
+after_event files (events.Swap cloud) = files
+after_event files (events.Again cloud) = files
+after_event files (events.Twice cloud) = files
+after_event files (events.Turn a) = files
+after_event files (events.Tick ticks) = files
+after_event files (events.Crash a) = files
+after_event files (events.Start a) = files
 
 -- the file map that a history leaves
 abbrev pub files_after : Header → List Entry → Files

@@ -1,6 +1,7 @@
-use Rattle.std.proofs.Common.{refl}
+use Rattle.std.proofs.Common.{refl, false}
 use Rattle.scfs_schedule.specs.Reading.{read}
 use Rattle.scfs_cli.specs.declared.closing.Filled.TheVariants as filleds
+use Rattle.scfs_cli.specs.Playing.{played}
 use Rattle.scfs_cli.proofs.CallLemmas.{fed_whole, other_filled}
 use Rattle.scfs_cli.proofs.HistoryLemmas.{memory_text, plays_nothing}
 use Rattle.scfs_cli.proofs.call.replay.Goals as goal
@@ -9,6 +10,7 @@ pub returns-in-Memory-clause-replays : goal.returns-in-Memory-clause-replays
 returns-in-Memory-clause-replays g c =
     let before = g.O.Sink.written c.args.out.now in
     let fills = c.in-Memory.ensures.fills in
+    let whole = played (read false fills.taken) in
     record {
       filled = filleds.Memory;
       replays = record {
@@ -17,7 +19,7 @@ returns-in-Memory-clause-replays g c =
         few = fills.few;
         full = λ is. cc;
         nothing_left = λ is. cc;
-        replays = memory_text fills.taken filleds.Memory (read fills.taken) before before refl (plays_nothing (read fills.taken) before);
+        replays = memory_text fills.taken filleds.Memory whole before before refl (plays_nothing whole before);
       };
       ended = λ is. cc;
       failed = λ is. cc;

@@ -1,10 +1,11 @@
-use Rattle.std.proofs.Common.{◌≡◌, ◌≤◌, ◌<◌, ◌+◌, ◌-◌, ◌^◌, List, ℕ, length}
+use Rattle.std.proofs.Common.{◌≡◌, ◌≤◌, ◌+◌, List, [], ℕ, length}
 use Rattle.scfs_base.specs.Outside.{Puts}
 use Rattle.scfs_schedule.specs.Reading.{IsAtEvents, gives}
 use Rattle.scfs_model.specs.History.{Entry, transcript}
 use Rattle.scfs_model.specs.Run.{Run}
 use Rattle.scfs_cli.specs.Stands.{IsWorld, Stands}
-use Rattle.scfs_cli.proofs.HistoryLemmas.{with_past}
+use Rattle.scfs_cli.specs.declared.limits.TheConstants.{EVENTS_LIMIT}
+use Rattle.scfs_cli.proofs.HistoryLemmas.{with_past, AllPlayed}
 use Rattle.scfs_cli.proofs.play.play_events.Given as goal
 
 abbrev pub invariant-events : goal.invariant-events
@@ -15,11 +16,13 @@ invariant-events g l =
       stands : Stands l.world header past;
       run : Run header past;
       wrote : Puts (g.O.Sink.written l.initial.out) (g.O.Sink.written l.out) (transcript past);
-      reads : (more : List ℕ) → gives l.initial.reader more ≡ with_past past (gives l.reader more);
+      reads : gives l.initial.reader [] ≡ with_past past (gives l.reader []);
       place : IsAtEvents l.reader header;
       world : IsWorld l.world;
       under : l.world.header ≡ header;
-      room : l.world.events + length l.reader.rest < 2 ^ 32 - 1;
+      played : AllPlayed (l.initial.reader.lines + 1) past;
+      lines : l.reader.lines ≡ l.initial.reader.lines + length past;
+      few : l.world.events ≤ EVENTS_LIMIT;
       later : g.O.Sink.faults l.initial.out ≤ g.O.Sink.faults l.out;
     }
 
