@@ -1,7 +1,9 @@
 #!/usr/bin/env bash
-# Prints how many megabytes (10^6 bytes) a second the proved crates digest, encrypt and multiply: scfs_bench over 1 MiB,
-# three runs of about two seconds of processor time each. A run of few rounds is subtracted, so that starting and
-# filling don't count.
+# Prints how many megabytes (10^6 bytes) a second the proved crates digest, encrypt, multiply, encode and decode: scfs_bench over 1 MiB,
+# three runs of about two seconds of processor time each. A run of few rounds is subtracted, so that starting and filling don't count.
+# Then it prints how many steps a second like that of a commit the tuple space does over 1,000 and over 100,000 tuples, how many
+# megabytes a second are sealed and opened over 64 KiB and 1 MiB, and how many the reader of schedules reads, in pieces of 64 KiB and
+# byte by byte.
 set -euo pipefail
 cd "$(dirname "$0")/../crates/scfs_bench"
 rt run -- all 1 >/dev/null
@@ -10,32 +12,51 @@ program=$PWD/out/scfs_bench
 few=2
 mebibyte=1048576
 
-# The seconds of processor time that a measure takes for a number of rounds. What else runs on the machine
-# counts little in it.
+# The seconds of processor time that a measure takes for a number of rounds: what else runs on the machine counts little.
 seconds() {
     local TIMEFORMAT='%U %S'
     { time "$program" "$1" "$2" >/dev/null; } 2>&1 | awk '{ print $1 + $2 }'
 }
 
-# The rounds that a measure does in about two seconds, from a run of 64.
+# The rounds that a measure does in about two seconds, from a run of so many.
 enough() {
-    awk -v few="$(seconds "$1" $few)" -v some="$(seconds "$1" 64)" -v n=$((64 - few)) '
-        BEGIN { took = some - few; if (took < 0.001) took = 0.001; print int(2 * n / took) + 64 }'
+    awk -v few="$(seconds "$1" $few)" -v some="$(seconds "$1" "$2")" -v n=$(($2 - few)) -v least="$2" '
+        BEGIN { took = some - few; if (took < 0.001) took = 0.001; print int(2 * n / took) + least }'
 }
 
-# The megabytes a second of a measure in one run of a number of rounds.
+# How much a second a measure does in one run of a number of rounds, where this much is done in one.
 speed() {
-    awk -v few="$(seconds "$1" $few)" -v all="$(seconds "$1" "$2")" -v bytes=$((($2 - few) * mebibyte)) '
-        BEGIN { printf "%9.1f", bytes / (all - few) / 1e6 }'
+    awk -v few="$(seconds "$1" $few)" -v all="$(seconds "$1" "$2")" -v done="$((($2 - few) * $3))" '
+        BEGIN { printf "%9.1f", done / (all - few) / 1e6 }'
+}
+
+# Three runs of a measure, where this much is done in one round; so many rounds are tried first.
+row() {
+    local rounds
+    rounds=$(enough "$1" "${3:-64}")
+    printf '%-11s %8d' "$1" "$rounds"
+    for _ in 1 2 3; do
+        printf ' %s' "$(speed "$1" "$rounds" "$2")"
+    done
+    echo
 }
 
 echo "MB/s over 1 MiB, $(nproc) processors, load $(cut -d' ' -f1 /proc/loadavg)"
-printf '%-8s %8s %9s %9s %9s\n' measure rounds first second third
-for measure in digest stream row; do
-    rounds=$(enough "$measure")
-    printf '%-8s %8d' "$measure" "$rounds"
-    for _ in 1 2 3; do
-        printf ' %s' "$(speed "$measure" "$rounds")"
-    done
-    echo
+printf '%-11s %8s %9s %9s %9s\n' measure rounds first second third
+for measure in digest stream row encode1 encode3 decode1 decode3; do
+    row "$measure" $mebibyte
 done
+echo "steps a second"
+for measure in steps1000 steps100000; do
+    row "$measure" 1000000
+done
+echo "MB/s sealed and opened for four clouds, over 64 KiB and over 1 MiB"
+for measure in seal64 open64; do
+    row "$measure" 65536
+done
+for measure in seal1024 open1024; do
+    row "$measure" $mebibyte
+done
+echo "MB/s of a schedule read, in pieces of 64 KiB and byte by byte"
+row read64k 60000000 4
+row read1 1000000 8

@@ -1,1 +1,3 @@
 mod RoundLemmas
+mod CodeLemmas
+mod CommitLemmas

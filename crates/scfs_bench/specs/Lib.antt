@@ -1,1 +1,4 @@
 pub mod Rounds
+pub mod Contents
+pub mod Works
+pub mod Commits

@@ -13,7 +13,7 @@ use std::alloc::{AllocError, Global};
 use std::mem;
 
 /// How many bytes each thing is done over.
-const MEBIBYTE: usize = 1_048_576;
+pub const MEBIBYTE: usize = 1_048_576;
 
 /// The factor of a row.
 const FACTOR: u8 = 29;
@@ -40,9 +40,9 @@ pub fn line(alloc: Global, measure: Measure, times: u32) -> Result<String, Alloc
     hex::encode(alloc, plain_digest(bytes.as_slice()).0)
 }
 
-/// Bytes of the pattern.
+/// This many bytes of the pattern.
 #[tactic(auto, using(crate::proofs::RoundLemmas::pattern_length), unfolding(crate::specs::Rounds::pattern))]
-fn filled(alloc: Global, size: usize) -> Result<Vec<u8>, AllocError>
+pub fn filled(alloc: Global, size: usize) -> Result<Vec<u8>, AllocError>
     ensures bytes { IfOk result (λ bytes. bytes.items ≡ pattern size) }
     ensures size { IfOk result (λ bytes. length bytes.items ≡ size) }
 {
@@ -89,7 +89,8 @@ fn put_digest(bytes: &mut [u8])
     put_front(bytes, &digest);
 }
 
-fn put_front(bytes: &mut [u8], front: &[u8])
+/// Puts bytes in place of as many at the front.
+pub fn put_front(bytes: &mut [u8], front: &[u8])
     requires { length front.now ≤ length bytes.old }
     ensures { bytes.new ≡ front.now ++ drop (length front.now) bytes.old }
 {
