@@ -1,4 +1,4 @@
-ghost use Rattle.std.specs.Prelude.{◌≡◌, ◌-◌, ◌^◌, min, IfOk, OnOk, slice_get};
+ghost use Rattle.std.specs.Prelude.{◌≡◌, ◌≢◌, ◌-◌, ◌^◌, ◌↔◌, [], min, IfOk, IsTrue, OnOk, slice_get};
 ghost use Rattle.std.specs.Option.{option_copied, option_map};
 ghost use Rattle.scfs_net.specs.Queues.{new_cloud, asked, serving, hiding, hidden_answer, always, did_at, did_weight, oldest_request_weight, oldest_reply_weight, answered, lost, taken, deferred, swapped, repeated, doubled, moved};
 
@@ -50,6 +50,13 @@ impl Cloud {
             None => None,
             Some(asked) => Some(&asked.body),
         }
+    }
+
+    /// Whether a reply waits.
+    pub fn replies(&self) -> bool
+        ensures { IsTrue result ↔ (self.now.replies ≢ []) }
+    {
+        !self.replies.is_empty()
     }
 
     /// The bytes that a copy of the oldest request carries, or the greatest number where there are more.

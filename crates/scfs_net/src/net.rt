@@ -1,4 +1,4 @@
-ghost use Rattle.std.specs.Prelude.{◌≡◌, ◌+◌, ◌<◌, ◌≤◌, length, slice_get, IfOk, MatchResult};
+ghost use Rattle.std.specs.Prelude.{◌≡◌, ◌≢◌, ◌+◌, ◌<◌, ◌≤◌, ◌↔◌, [], length, slice_get, IfOk, IsTrue, MatchResult};
 ghost use Rattle.std.specs.Option.{option_copied, option_map};
 ghost use Rattle.scfs_net.specs.Queues.{new_net, cloud_at, at_cloud, net_asked, net_answered, net_repeated, net_doubled, LeadsTo, always, serving, hiding, net_did, lost, taken, deferred, swapped, moved};
 
@@ -198,5 +198,13 @@ impl Net {
         ensures { option_copied result ≡ option_map (λ asked. asked.body) (slice_get (cloud_at self.now cloud).requests 0) }
     {
         self.cloud(cloud).oldest()
+    }
+
+    /// Whether a reply of the cloud waits.
+    pub fn replies(&self, cloud: u8) -> bool
+        requires { cloud < length self.now.clouds }
+        ensures { IsTrue result ↔ ((cloud_at self.now cloud).replies ≢ []) }
+    {
+        self.cloud(cloud).replies()
     }
 }

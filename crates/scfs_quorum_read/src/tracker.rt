@@ -1,4 +1,4 @@
-ghost use Rattle.std.specs.Prelude.{◌≡◌, ◌≢◌, ◌+◌, ◌*◌, ◌<◌, ◌≤◌, List, [], ◌∷◌, ◌++◌, length, false, not, MatchOption, IfOk, IfSome, OnOk};
+ghost use Rattle.std.specs.Prelude.{◌≡◌, ◌≢◌, ◌+◌, ◌*◌, ◌<◌, ◌≤◌, List, [], ◌∷◌, ◌++◌, length, false, not, MatchOption, IfOk, IfSome, OnErr, OnOk, None};
 ghost use Rattle.std.specs.Option.{option_to_list};
 ghost use Rattle.scfs_unit.specs.Checking.{kept, IsPiece};
 ghost use Rattle.scfs_quorum_read.specs.Reading.{Reading, Told, Answered, Turned, good_piece, is_among, first_unasked, asking, read_step, turn_step};
@@ -86,6 +86,7 @@ impl ReadTracker {
         ensures stands { IfOk result (λ step. (past : List Told) → StandsFor self.old past
             → StandsFor self.new (Answered cloud answer.now ∷ past)) }
         ensures open { IfOk result (λ step. LeavesOpen step self.new) }
+        ensures memory { OnErr result (good_piece self.old.reading cloud answer.now ≢ None) }
     {
         if !self.wants(cloud) {
             return Ok(ReadStep::Wait);

@@ -70,7 +70,7 @@ impl Sessions {
         })
     }
 
-    /// Opens a session of a number that no session has. The contents have at most `CONTENTS_LIMIT` bytes.
+    /// Opens a session of this number, in place of one that had it. The contents have at most `CONTENTS_LIMIT` bytes.
     pub fn add(
         &mut self,
         session: u64,
@@ -79,7 +79,6 @@ impl Sessions {
         writes: bool,
         contents: Bytes,
     ) -> Result<(), Memory>
-        requires free { session_of self.old session ≡ None }
         requires short { length contents ≤ CONTENTS_LIMIT }
         ensures { OnOk result (self.new ≡ opened self.old session (record { file = id; base = base; writes = writes; contents = contents })) }
     {
@@ -158,6 +157,7 @@ impl Sessions {
         ensures answer { MatchResult result
             (λ left. session_of self.old session ≡ Some (record { file = left.id; base = left.base; writes = left.writes; contents = left.contents }))
             (λ refusal. (refusal ≡ Refusal.BadHandle) × (session_of self.old session ≡ None)) }
+        ensures short { IfOk result (λ left. length left.contents ≤ CONTENTS_LIMIT) }
         ensures after { self.new ≡ ended self.old session }
         ensures gone { session_of self.new session ≡ None }
     {

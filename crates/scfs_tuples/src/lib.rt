@@ -2,6 +2,7 @@
 #![tactic(auto)]
 
 mod acting;
+mod copies;
 mod fields;
 mod index;
 mod looks;
