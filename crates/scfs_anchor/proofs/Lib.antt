@@ -1,0 +1,10 @@
+pub mod LawLemmas
+pub mod LockLemmas
+pub mod NameLemmas
+pub mod OpenLemmas
+pub mod PathLemmas
+pub mod ReplyLemmas
+pub mod SightLemmas
+pub mod StepLemmas
+pub mod StepRules
+pub mod WalkLemmas
