@@ -1,0 +1,10 @@
+pub mod Acting
+pub mod Acts
+pub mod Anchored
+pub mod State
+pub mod Standing
+pub mod Reacting
+pub mod Laws
+pub mod Simulation
+pub mod SimulationOfClouds
+pub mod Keeping
