@@ -1,0 +1,12 @@
+pub mod Clouds
+pub mod Blocks
+pub mod Stores
+pub mod Faults
+pub mod Together
+pub mod Keeping
+pub mod State
+pub mod Standing
+pub mod Showing
+pub mod Doing
+pub mod Worlds
+pub mod Laws

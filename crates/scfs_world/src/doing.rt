@@ -1,0 +1,65 @@
+ghost use Rattle.std.specs.Prelude.{◌≡◌, ◌+◌, ◌<◌, ◌≤◌, ◌++◌, length, All, IfErr, OnOk};
+ghost use Rattle.scfs_model.specs.UnitFormat.{under};
+ghost use Rattle.scfs_net.specs.declared.messages.TheConstants.{CARRIED_LIMIT};
+ghost use Rattle.scfs_schedule.specs.declared.types.Header.{Header};
+ghost use Rattle.scfs_world.specs.Doing.{AsksAmong, desk_with, line_out, lines_out, net_by, net_with, step_out};
+ghost use Rattle.scfs_world.specs.declared.fault.StepFault.TheVariants as StepFault;
+
+use crate::StepFault;
+use crate::desk::Desk;
+use crate::shown::request_line;
+use scfs_agent::{AskedStep, Output};
+use scfs_base::Sequence;
+use scfs_net::Net;
+use scfs_schedule::Line;
+use std::alloc::Global;
+
+/// Does one output of an agent: a step waits at its desk, a request waits at its cloud, and lines say so.
+fn do_output(
+    alloc: Global,
+    output: Output,
+    desk: &mut Desk,
+    net: &mut Net,
+    lines: &mut Sequence<Line>,
+) -> Result<(), StepFault>
+    requires clouds { AsksAmong (length net.old.clouds) output }
+    requires carried { net.old.carried ≤ CARRIED_LIMIT }
+    ensures lines { OnOk result ((header : Header) → lines.new ≡ lines.old ++ line_out (under header) output) }
+    ensures desk { OnOk result (desk.new ≡ record desk.old { asked = desk.old.asked ++ step_out output }) }
+    ensures net { OnOk result (net.new ≡ net_by net.old output) }
+    ensures carried { OnOk result (net.new.carried ≤ CARRIED_LIMIT) }
+    ensures too_large { IfErr result (λ fault. fault ≡ StepFault.TooLarge → CARRIED_LIMIT < (net_by net.old output).carried) }
+{
+    match output {
+        Output::Space(request, step) => desk.ask(AskedStep { request, step })?,
+        Output::Cloud(cloud, request, body) => {
+            lines.push(request_line(alloc, request, cloud, &body)?)?;
+            net.ask(cloud, request, body)?;
+        }
+        Output::Line(line) => lines.push(line)?,
+    }
+    Ok(())
+}
+
+/// Does the outputs of an agent, in their order.
+pub fn do_outputs(
+    alloc: Global,
+    outputs: Sequence<Output>,
+    desk: &mut Desk,
+    net: &mut Net,
+    lines: &mut Sequence<Line>,
+) -> Result<(), StepFault>
+    requires clouds { All (AsksAmong (length net.old.clouds)) outputs }
+    requires carried { net.old.carried ≤ CARRIED_LIMIT }
+    ensures lines { OnOk result ((header : Header) → lines.new ≡ lines.old ++ lines_out (under header) outputs) }
+    ensures desk { OnOk result (desk.new ≡ desk_with desk.old outputs) }
+    ensures net { OnOk result (net.new ≡ net_with net.old outputs) }
+    ensures carried { OnOk result (net.new.carried ≤ CARRIED_LIMIT) }
+    ensures too_large { IfErr result (λ fault. fault ≡ StepFault.TooLarge → CARRIED_LIMIT < (net_with net.old outputs).carried) }
+{
+    let mut outputs = outputs;
+    'each: while let Some(output) = outputs.pop_front() {
+        do_output(alloc, output, desk, net, lines)?;
+    }
+    Ok(())
+}
