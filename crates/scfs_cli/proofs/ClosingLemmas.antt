@@ -1,4 +1,4 @@
-use Rattle.std.proofs.Common.{◌≡◌, ℕ, List, ◌++◌, refl, subst, Option}
+use Rattle.std.proofs.Common.{◌≡◌, ℕ, List, ◌++◌, refl, subst, Option, Some, None}
 use Rattle.scfs_base.specs.Outside.{Puts}
 use Rattle.scfs_schedule.specs.declared.types.Ending.TheVariants as endings
 use Rattle.scfs_schedule.specs.declared.types.BadKind.{BadKind}
@@ -12,7 +12,7 @@ use Rattle.scfs_cli.specs.declared.closing.Filled.TheVariants as filleds
 use Rattle.scfs_cli.specs.Closing.{end_closing, bad_closing, stop_closing, closing_of, closing_status}
 use Rattle.scfs_cli.specs.declared.closing.Status.{Status}
 use Rattle.scfs_cli.specs.declared.closing.Status.TheVariants as statuses
-use Rattle.scfs_cli.specs.Headline.{GetsText, IsStatus}
+use Rattle.scfs_cli.specs.Headline.{GetsText, IsStatus, last_line}
 use Rattle.scfs_cli.proofs.EdgeLemmas.{puts_then, then_front}
 
 -- a text that was written before another
@@ -50,9 +50,14 @@ usage_closing count (finishes.Text endings.Ended) filled h = cc
 usage_closing count (finishes.Text (endings.Stopped stop)) filled h = usage_stop stop filled h
 usage_closing count (finishes.Unbuilt line) filled h = cc
 usage_closing count finishes.Events filled h = cc
+usage_closing count finishes.Objects filled h = cc
 
-pub never_usage : (count : ℕ) (finish : Finish) (filled : Filled) (status : Status) → IsStatus status (closing_of count finish filled) → status ≡ statuses.Usage → ⊥
-never_usage count finish filled status is same = usage_closing count finish filled (subst (λ s. IsStatus s (closing_of count finish filled)) same is)
+usage_last : (count : ℕ) (finish : Option Finish) (filled : Filled) → statuses.Usage ≡ closing_status (last_line count finish filled) → ⊥
+usage_last count None filled h = cc
+usage_last count (Some finish) filled h = usage_closing count finish filled h
+
+pub never_usage : (count : ℕ) (finish : Option Finish) (filled : Filled) (status : Status) → IsStatus status (last_line count finish filled) → status ≡ statuses.Usage → ⊥
+never_usage count finish filled status is same = usage_last count finish filled (subst (λ s. IsStatus s (last_line count finish filled)) same is)
 
 -- a read fault is told only where a read failed
 fault_end : (line : ℕ) (filled : Filled) → statuses.ReadFault ≡ closing_status (end_closing line filled) → filled ≡ filleds.Fault
@@ -79,6 +84,11 @@ fault_closing count (finishes.Text endings.Ended) filled h = cc
 fault_closing count (finishes.Text (endings.Stopped stop)) filled h = fault_stop stop filled h
 fault_closing count (finishes.Unbuilt line) filled h = cc
 fault_closing count finishes.Events filled h = cc
+fault_closing count finishes.Objects filled h = cc
 
-pub read_fault : (count : ℕ) (finish : Finish) (filled : Filled) (status : Status) → IsStatus status (closing_of count finish filled) → status ≡ statuses.ReadFault → filled ≡ filleds.Fault
-read_fault count finish filled status is same = fault_closing count finish filled (subst (λ s. IsStatus s (closing_of count finish filled)) same is)
+fault_last : (count : ℕ) (finish : Option Finish) (filled : Filled) → statuses.ReadFault ≡ closing_status (last_line count finish filled) → filled ≡ filleds.Fault
+fault_last count None filled h = cc
+fault_last count (Some finish) filled h = fault_closing count finish filled h
+
+pub read_fault : (count : ℕ) (finish : Option Finish) (filled : Filled) (status : Status) → IsStatus status (last_line count finish filled) → status ≡ statuses.ReadFault → filled ≡ filleds.Fault
+read_fault count finish filled status is same = fault_last count finish filled (subst (λ s. IsStatus s (last_line count finish filled)) same is)

@@ -53,3 +53,7 @@ feeds_then a b c x y f fed place ending held = record {
 
 pub front_of_all : (a b : Option (List ℕ)) (x : List ℕ) → Puts a b x → GetsFront a b x
 front_of_all a b x p = record { front = x; back = []; whole = sym (append-nil x); puts = p }
+
+-- nothing more was written
+pub puts_more : (a b c : Option (List ℕ)) (x : List ℕ) → Puts a b x → Puts b c [] → Puts a c x
+puts_more a b c x p q = subst (Puts a c) (append-nil x) (puts_then a b c x [] p q)

@@ -1,7 +1,6 @@
+pub mod LawLemmas
 pub mod CallLemmas
 pub mod ClosingLemmas
 pub mod EdgeLemmas
 pub mod HistoryLemmas
-pub mod PlaceLemmas
-pub mod ServeLemmas
-pub mod TreeLemmas
+pub mod TurnLemmas

@@ -1,9 +1,7 @@
 use Rattle.std.specs.Prelude.{ℕ, List, [], ◌++◌, codes, Option, Some, None}
 use Rattle.std.specs.Fmt.{decimal}
-use Rattle.scfs_schedule.specs.declared.types.Bad.{Bad}
 use Rattle.scfs_schedule.specs.declared.types.BadKind.{BadKind}
 use Rattle.scfs_schedule.specs.declared.types.BadKind.TheVariants as kinds
-use Rattle.scfs_schedule.specs.declared.types.Ending.{Ending}
 use Rattle.scfs_schedule.specs.declared.types.Ending.TheVariants as endings
 use Rattle.scfs_schedule.specs.declared.types.Stop.{Stop}
 use Rattle.scfs_schedule.specs.declared.types.Stop.TheVariants as stops
@@ -91,6 +89,7 @@ closing_of events (finishes.Text endings.Ended) filled = Some (lasts.Done events
 closing_of events (finishes.Text (endings.Stopped stop)) filled = stop_closing stop filled
 closing_of events (finishes.Unbuilt line) filled = Some (lasts.BadInput line faults.Unbuilt)
 closing_of events finishes.Events filled = Some (lasts.TooLarge whichs.Events)
+closing_of events finishes.Objects filled = Some (lasts.TooLarge whichs.Objects)
 
 abbrev pub closing_text : Option LastLine → List ℕ
 closing_text None = []

@@ -1,11 +1,17 @@
-use Rattle.std.specs.Prelude.{◌≡◌, ◌≤◌, ℕ, ◌+◌, List, [], ◌∷◌, ◌++◌, codes, Bool, false, length, Option, IfSome}
+use Rattle.std.specs.Prelude.{◌≡◌, ◌≤◌, ℕ, ◌+◌, List, [], ◌∷◌, ◌++◌, codes, Bool, false, length, Option, Some, None, IfSome}
 use Rattle.std.specs.Str.{bytes_eq}
 use Rattle.scfs_base.specs.Outside.{Takes, Puts, Rose}
 use Rattle.scfs_schedule.specs.declared.limits.TheConstants.{INPUT_LIMIT}
 use Rattle.scfs_schedule.specs.declared.types.Header.{Header}
 use Rattle.scfs_schedule.specs.Reading.{read}
-use Rattle.scfs_model.specs.History.{Entry, events_then, transcript}
+use Rattle.scfs_policy.specs.declared.rank.RankFacts.{RankFacts}
+use Rattle.scfs_model.specs.Held.{ReadsHeld}
+use Rattle.scfs_model.specs.History.{History, transcript}
 use Rattle.scfs_model.specs.Run.{Run}
+use Rattle.scfs_model.specs.UnitFormat.{under}
+use Rattle.scfs_world.specs.Blocks.{NoClash}
+use Rattle.scfs_cli.specs.declared.closing.Finish.{Finish}
+use Rattle.scfs_cli.specs.Happening.{EndsWith, IsPlayed}
 use Rattle.scfs_cli.specs.declared.closing.Filled.{Filled}
 use Rattle.scfs_cli.specs.declared.closing.Filled.TheVariants as filleds
 use Rattle.scfs_cli.specs.declared.closing.LastLine.{LastLine}
@@ -45,31 +51,41 @@ is_replay (word ∷ next ∷ rest) = false
 abbrev pub Closes : Option LastLine → Option (List ℕ) → Option (List ℕ) → Status → Type 0
 Closes closing before after status = GetsText status before after (closing_text closing) × IsStatus status closing
 
--- The headline, of bytes taken from the input: there is a history whose events are exactly those that are played of what the
--- grammar reads in them; it is a run of the file map under the header that stands in them; and out got its transcript and then
--- the last line, which the end of what is played and of the reading decide.
-pub record ReplaysText (taken : List ℕ) (filled : Filled) (before after : Option (List ℕ)) (status : Status) : Type 0 where
+-- the last line after a history of so many events; none where playing had no finish
+abbrev pub last_line : ℕ → Option Finish → Filled → Option LastLine
+last_line count None filled = None
+last_line count (Some finish) filled = closing_of count finish filled
+
+-- The headline, of bytes taken from the input: there is a history of the events that are played of what the grammar reads in them,
+-- under the header that stands in them. Its lines are those that agents, space and clouds make, each over the bytes that it was
+-- really given; each read of a session shows the bytes that the session holds; and where no two different blocks share a digest it
+-- is a run of the file map, whatever the clouds answered. Out got its transcript and then the last line, which the end of what is
+-- played and of the reading decide.
+pub record ReplaysText (allows : RankFacts → ℕ → Type 0) (taken : List ℕ) (filled : Filled) (before after : Option (List ℕ)) (status : Status) : Type 0 where
   pub header : Header
-  pub past : List Entry
-  pub under : IfSome (played (read false taken)).header (λ stated. stated ≡ header)
-  pub events : events_then past [] ≡ (played (read false taken)).events
-  pub run : Run header past
-  pub wrote : GetsText status before after (transcript past ++ closing_text (closing_of (length past) (played (read false taken)).finish filled))
-  pub decided : IsStatus status (closing_of (length past) (played (read false taken)).finish filled)
+  pub past : History
+  pub finish : Option Finish
+  pub stated : IfSome (played (read false taken)).header (λ stated. stated ≡ header)
+  pub ends : EndsWith allows header past (played (read false taken)) finish
+  pub plays : IsPlayed allows header past
+  pub held : ReadsHeld (under header) past
+  pub run : NoClash header past → Run (under header) past
+  pub wrote : GetsText status before after (transcript past ++ closing_text (last_line (length past) finish filled))
+  pub decided : IsStatus status (last_line (length past) finish filled)
 
 -- The whole of it: so it is of the bytes taken, where the source tells them. At the end of the input nothing is left.
-pub record Replays (left left' before after : Option (List ℕ)) (filled : Filled) (status : Status) : Type 0 where
+pub record Replays (allows : RankFacts → ℕ → Type 0) (left left' before after : Option (List ℕ)) (filled : Filled) (status : Status) : Type 0 where
   pub taken : List ℕ
   pub takes : Takes left left' taken
   pub few : length taken ≤ INPUT_LIMIT + 1
   pub full : filled ≡ filleds.Full → length taken ≡ INPUT_LIMIT + 1
   pub nothing_left : filled ≡ filleds.End → IfSome left' (λ rest. rest ≡ [])
-  pub replays : ReplaysText taken filled before after status
+  pub replays : ReplaysText allows taken filled before after status
 
 -- The call's promise: so it is for some ending of the reading, and of that ending the input's counts tell. Reading gave the end
 -- only where the count of ends rose, and failed only where the count of faults did.
-pub record ReplaysInput (left left' before after : Option (List ℕ)) (ends ends' faults faults' : ℕ) (status : Status) : Type 0 where
+pub record ReplaysInput (allows : RankFacts → ℕ → Type 0) (left left' before after : Option (List ℕ)) (ends ends' faults faults' : ℕ) (status : Status) : Type 0 where
   pub filled : Filled
-  pub replays : Replays left left' before after filled status
+  pub replays : Replays allows left left' before after filled status
   pub ended : filled ≡ filleds.End → Rose ends ends'
   pub failed : filled ≡ filleds.Fault → Rose faults faults'

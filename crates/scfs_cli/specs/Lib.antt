@@ -1,9 +1,6 @@
-pub mod Actors
-pub mod Built
 pub mod Closing
 pub mod Edges
+pub mod Happening
 pub mod Headline
 pub mod Playing
 pub mod Plays
-pub mod Stands
-pub mod Steps

@@ -7,7 +7,7 @@ use Rattle.scfs_schedule.specs.Reading.{Read}
 use Rattle.scfs_cli.specs.declared.closing.Finish.{Finish}
 use Rattle.scfs_cli.specs.declared.closing.Finish.TheVariants as finishes
 use Rattle.scfs_cli.specs.declared.limits.TheConstants.{EVENTS_LIMIT}
-use Rattle.scfs_cli.specs.Built.{is_built_header, is_built_event}
+use Rattle.scfs_model.specs.Built.{is_built_header, is_built}
 
 -- the header and the events that are played, and how that ends
 pub record Playing : Type 0 where
@@ -30,7 +30,7 @@ finished finish = record { header = None; events = []; finish = finish }
 -- whether what is played ends before an event, behind so many others; it stands in the line of this number
 abbrev pub finish_at : (line count : ℕ) → Event → Option Finish
 finish_at line count event =
-    if is_built_event event then (if count == EVENTS_LIMIT then Some finishes.Events else None) else Some (finishes.Unbuilt line)
+    if is_built event then (if count == EVENTS_LIMIT then Some finishes.Events else None) else Some (finishes.Unbuilt line)
 
 -- an event before what follows, unless it ends what is played
 abbrev pub unless_finished : Option Finish → Event → Playing → Playing

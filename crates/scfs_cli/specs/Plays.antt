@@ -1,23 +1,29 @@
-use Rattle.std.specs.Prelude.{◌≡◌, ◌<◌, ℕ, ◌+◌, List, [], ◌∷◌, length, Option, IfSome, Result, Ok, Err}
+use Rattle.std.specs.Prelude.{◌≡◌, ◌<◌, ◌≤◌, ℕ, ◌+◌, List, [], ◌∷◌, length, Option, Some, None, IfSome, Result, Ok, Err}
 use Rattle.std.specs.List.{flat_map}
 use Rattle.scfs_base.specs.Outside.{Puts}
+use Rattle.scfs_policy.specs.declared.rank.RankFacts.{RankFacts}
+use Rattle.scfs_net.specs.declared.messages.TheConstants.{CARRIED_LIMIT}
 use Rattle.scfs_schedule.specs.declared.types.Event.{Event}
 use Rattle.scfs_schedule.specs.declared.types.Header.{Header}
 use Rattle.scfs_schedule.specs.Reading.{Reading, IsAtEvents, gives, stopped, with_header, with_event}
 use Rattle.scfs_schedule.specs.Grammar.{IsHeader, IsEvent}
 use Rattle.scfs_schedule.specs.declared.types.Ending.{Ending}
 use Rattle.scfs_schedule.specs.Text.{numbered}
-use Rattle.scfs_model.specs.Files.{files_after, due}
-use Rattle.scfs_model.specs.History.{Entry, events_then, transcript}
-use Rattle.scfs_model.specs.Run.{Run}
+use Rattle.scfs_model.specs.Due.{actual}
+use Rattle.scfs_model.specs.History.{Entry, History, transcript}
+use Rattle.scfs_model.specs.Held.{ReadsHeld}
+use Rattle.scfs_model.specs.Run.{Answers, Run, facts_asked}
+use Rattle.scfs_world.specs.Blocks.{NoClash}
+use Rattle.scfs_model.specs.UnitFormat.{under}
+use Rattle.scfs_world.specs.Standing.{Stands, entry_after, carried_after}
 use Rattle.scfs_cli.specs.declared.play.Played.{Played}
 use Rattle.scfs_cli.specs.declared.play.Played.TheVariants as playeds
 use Rattle.scfs_cli.specs.declared.play.Turn.{Turn}
 use Rattle.scfs_cli.specs.declared.play.Turn.TheVariants as turns
-use Rattle.scfs_cli.specs.declared.world.World.{World}
+use Rattle.scfs_cli.specs.declared.closing.Finish.{Finish}
 use Rattle.scfs_cli.specs.Edges.{GetsFront}
+use Rattle.scfs_cli.specs.Happening.{IsPlayed, IsTooLargeNext, EndsWith}
 use Rattle.scfs_cli.specs.Playing.{Playing, header_lines}
-use Rattle.scfs_cli.specs.Stands.{Stands}
 
 -- the beginning of a text: its header, and what follows; or its ending where there is none
 abbrev pub Begins : Result Header Ending → Reading → Reading → Type 0
@@ -32,42 +38,60 @@ GoesOn (Ok event) old new =
     × (length new.rest < length old.rest) × (new.lines ≡ old.lines + 1) × (gives old [] ≡ with_event event (gives new []))
 GoesOn (Err ending) old new = gives old [] ≡ stopped ending
 
--- an event with the lines that are due after a history
-abbrev pub due_entry : Header → List Entry → Event → Entry
-due_entry header past event = record { event = event; lines = due (files_after header past) event }
+-- the text of an entry's lines, behind a history
+abbrev pub entry_text : History → Entry → List ℕ
+entry_text past e = flat_map (numbered (length past + 1)) e.lines
 
--- the text of those lines
-abbrev pub due_text : Header → List Entry → Event → List ℕ
-due_text header past event = flat_map (numbered (length past + 1)) (due (files_after header past) event)
+-- an event is done after a history: the rank rule allows these answers, and the bytes carried keep their limit
+pub record IsDone (allows : RankFacts → ℕ → Type 0) (header : Header) (past : History) (event : Event) : Type 0 where
+  pub ranks : List ℕ
+  pub answers : Answers allows (facts_asked (under header) (actual (under header) past) event) ranks
+  pub carried : carried_after (under header) past event ranks ≤ CARRIED_LIMIT
+
+abbrev pub entry_of : {allows : RankFacts → ℕ → Type 0} → (header : Header) (past : History) (event : Event) → IsDone allows header past event → Entry
+entry_of header past event done = entry_after (under header) past event done.ranks
 
 -- one event's turn: the world stands for the history with it, and its lines were written; or it ended what is played, and
--- nothing was; or a front of them was written, or nothing
-abbrev pub Turns : Header → List Entry → Event → Option (List ℕ) → Option (List ℕ) → World → Turn → Type 0
-Turns header past event before after world turns.Done =
-    Stands world header (due_entry header past event ∷ past) × Puts before after (due_text header past event)
-Turns header past event before after world (turns.Finished finish) = Puts before after []
-Turns header past event before after world turns.WriteFault = GetsFront before after (due_text header past event)
-Turns header past event before after world turns.Memory = Puts before after []
+-- nothing was; or it would carry too many bytes; or a front of its lines was written, or nothing
+abbrev pub Turns : (allows : RankFacts → ℕ → Type 0) → Header → History → Event → Option (List ℕ) → Option (List ℕ) → Turn → Type 0
+Turns allows header past event before after (turns.Done world) =
+    (done : IsDone allows header past event) × Stands world header (entry_of header past event done ∷ past)
+    × Puts before after (entry_text past (entry_of header past event done))
+Turns allows header past event before after (turns.Finished finish) = Puts before after []
+Turns allows header past event before after turns.TooLarge = IsTooLargeNext allows header past event × Puts before after []
+Turns allows header past event before after turns.WriteFault =
+    (done : IsDone allows header past event) × GetsFront before after (entry_text past (entry_of header past event done))
+Turns allows header past event before after turns.Memory = Puts before after []
 
 -- what was written of a history's transcript: all of it where playing came to its finish, else a front
-abbrev pub WroteBy : Played → List Entry → Playing → Option (List ℕ) → Option (List ℕ) → Type 0
-WroteBy (playeds.Ended count finish) past playing before after =
-    (count ≡ length past) × (finish ≡ playing.finish) × Puts before after (transcript past)
-WroteBy playeds.WriteFault past playing before after = GetsFront before after (transcript past)
-WroteBy playeds.Memory past playing before after = GetsFront before after (transcript past)
+abbrev pub WroteBy : Played → History → Option (List ℕ) → Option (List ℕ) → Type 0
+WroteBy (playeds.Ended count finish) past before after = Puts before after (transcript past)
+WroteBy playeds.WriteFault past before after = GetsFront before after (transcript past)
+WroteBy playeds.Memory past before after = GetsFront before after (transcript past)
 
--- playing these events under a header: they are those of a run, whose transcript was written
-pub record PlaysEvents (header : Header) (playing : Playing) (before after : Option (List ℕ)) (played : Played) : Type 0 where
-  pub past : List Entry
-  pub run : Run header past
-  pub events : events_then past [] ≡ playing.events
-  pub wrote : WroteBy played past playing before after
+-- how playing ended: with a finish after so many events, or with none
+abbrev pub finish_of : Played → Option Finish
+finish_of (playeds.Ended count finish) = Some finish
+finish_of playeds.WriteFault = None
+finish_of playeds.Memory = None
+
+abbrev pub Counts : Played → History → Type 0
+Counts (playeds.Ended count finish) past = count ≡ length past
+Counts playeds.WriteFault past = Unit {0}
+Counts playeds.Memory past = Unit {0}
+
+-- playing these events under a header: a history of them was played, and its transcript was written
+pub record PlaysEvents (allows : RankFacts → ℕ → Type 0) (header : Header) (playing : Playing) (before after : Option (List ℕ)) (played : Played) : Type 0 where
+  pub past : History
+  pub plays : IsPlayed allows header past
+  pub held : ReadsHeld (under header) past
+  pub run : NoClash header past → Run (under header) past
+  pub ends : EndsWith allows header past playing (finish_of played)
+  pub counts : Counts played past
+  pub wrote : WroteBy played past before after
 
 -- the same of a text with its header
-pub record Plays (playing : Playing) (before after : Option (List ℕ)) (played : Played) : Type 0 where
+pub record Plays (allows : RankFacts → ℕ → Type 0) (playing : Playing) (before after : Option (List ℕ)) (played : Played) : Type 0 where
   pub header : Header
-  pub past : List Entry
   pub under : IfSome playing.header (λ stated. stated ≡ header)
-  pub run : Run header past
-  pub events : events_then past [] ≡ playing.events
-  pub wrote : WroteBy played past playing before after
+  pub events : PlaysEvents allows header playing before after played

@@ -1,5 +1,6 @@
 ghost use Rattle.std.specs.Prelude.{◌≡◌, List, ℕ, [], Some, true, false, map, string_bytes};
 ghost use Rattle.scfs_base.specs.Outside.{Rose};
+ghost use Rattle.scfs_policy.specs.Rank.{IsRankRule};
 ghost use Rattle.scfs_schedule.specs.Reading.{IsAtEvents, gives, read};
 ghost use Rattle.scfs_cli.specs.Headline.{Closes, ReplaysInput, ReplaysText, is_replay};
 ghost use Rattle.scfs_schedule.specs.declared.types.Header.{Header};
@@ -9,6 +10,7 @@ use crate::closing::{Filled, LastLine, Status, closing_line};
 use crate::edges::{fill, write_all};
 use crate::play::{Played, play};
 use scfs_base::{Failed, Sink, Source};
+use scfs_policy::{RankFacts, RankRule};
 use scfs_schedule::Reader;
 use std::alloc::Global;
 
@@ -27,12 +29,19 @@ fn close<O: Sink>(alloc: Global, last: LastLine, out: &mut O) -> Status
 }
 
 /// Plays what was read, and writes the last line.
-fn finish<O: Sink>(alloc: Global, reader: &mut Reader, filled: Filled, out: &mut O) -> Status
-    requires { (header : Header) → ¬ IsAtEvents reader.old header }
-    ensures replays { (taken : List ℕ) → gives reader.old [] ≡ read false taken → ReplaysText taken filled (O.written out.old) (O.written out.new) result }
+fn finish<O: Sink, R: Fn(RankFacts) -> u64>(
+    alloc: Global,
+    reader: &mut Reader,
+    filled: Filled,
+    rank: &RankRule<R>,
+    out: &mut O,
+) -> Status
+    requires place { (header : Header) → ¬ IsAtEvents reader.old header }
+    requires rank { IsRankRule (R.pre rank.now) }
+    ensures replays { (taken : List ℕ) → gives reader.old [] ≡ read false taken → ReplaysText (R.post rank.now) taken filled (O.written out.old) (O.written out.new) result }
     ensures fault { result ≡ Status.WriteFault → Rose (O.faults out.old) (O.faults out.new) }
 {
-    match play(alloc, reader, out) {
+    match play(alloc, reader, rank, out) {
         Played::WriteFault => Status::WriteFault,
         Played::Memory => Status::Memory,
         Played::Ended(events, finish) => match closing_line(events, finish, filled) {
@@ -43,8 +52,14 @@ fn finish<O: Sink>(alloc: Global, reader: &mut Reader, filled: Filled, out: &mut
 }
 
 /// Replays the schedule on the input.
-fn replay<I: Source, O: Sink>(alloc: Global, input: &mut I, out: &mut O) -> Status
-    ensures replays { ReplaysInput (I.left input.old) (I.left input.new) (O.written out.old) (O.written out.new)
+fn replay<I: Source, O: Sink, R: Fn(RankFacts) -> u64>(
+    alloc: Global,
+    input: &mut I,
+    rank: &RankRule<R>,
+    out: &mut O,
+) -> Status
+    requires { IsRankRule (R.pre rank.now) }
+    ensures replays { ReplaysInput (R.post rank.now) (I.left input.old) (I.left input.new) (O.written out.old) (O.written out.new)
         (I.ends input.old) (I.ends input.new) (I.faults input.old) (I.faults input.new) result }
     ensures fault { result ≡ Status.WriteFault → Rose (O.faults out.old) (O.faults out.new) }
 {
@@ -52,29 +67,31 @@ fn replay<I: Source, O: Sink>(alloc: Global, input: &mut I, out: &mut O) -> Stat
     let filled = fill(input, &mut reader);
     match filled {
         Filled::Memory => Status::Memory,
-        Filled::End | Filled::Fault | Filled::Full => finish(alloc, &mut reader, filled, out),
+        Filled::End | Filled::Fault | Filled::Full => finish(alloc, &mut reader, filled, rank, out),
     }
 }
 
 /// Replays a schedule: reads it from `input` and writes its transcript to `out`, and then a last line that says how it ended.
-/// The one command is the word `replay` alone.
-pub fn scfs<I: Source, O: Sink>(
+/// The one command is the word `replay` alone. Opens read the clouds in the order of the rule's answers, then of their numbers.
+pub fn scfs<I: Source, O: Sink, R: Fn(RankFacts) -> u64>(
     alloc: Global,
     words: &[String],
     input: &mut I,
     out: &mut O,
+    rank: &RankRule<R>,
 ) -> Status
+    requires { IsRankRule (R.pre rank.now) }
     ensures usage { is_replay (map string_bytes words.now) ≡ false →
         Closes (Some LastLine.Usage) (O.written out.old) (O.written out.new) result × (input.new ≡ input.old) }
     ensures usage_only { result ≡ Status.Usage → is_replay (map string_bytes words.now) ≡ false }
     ensures replays { is_replay (map string_bytes words.now) ≡ true →
-        ReplaysInput (I.left input.old) (I.left input.new) (O.written out.old) (O.written out.new)
+        ReplaysInput (R.post rank.now) (I.left input.old) (I.left input.new) (O.written out.old) (O.written out.new)
         (I.ends input.old) (I.ends input.new) (I.faults input.old) (I.faults input.new) result }
     ensures read_fault { result ≡ Status.ReadFault → Rose (I.faults input.old) (I.faults input.new) }
     ensures write_fault { result ≡ Status.WriteFault → Rose (O.faults out.old) (O.faults out.new) }
 {
     match words {
-        [word] if word.as_str() == "replay" => replay(alloc, input, out),
+        [word] if word.as_str() == "replay" => replay(alloc, input, rank, out),
         _ => close(alloc, LastLine::Usage, out),
     }
 }

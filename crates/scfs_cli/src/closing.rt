@@ -25,6 +25,8 @@ pub enum Finish {
     Unbuilt(u64),
     /// Before the first event past the limit.
     Events,
+    /// Before an event that would carry more bytes than the limit.
+    Objects,
 }
 
 /// What is wrong with a line: it is not allowed, or it asks what the program can't do yet.
@@ -158,6 +160,7 @@ pub fn closing_line(events: u64, finish: Finish, filled: Filled) -> Option<LastL
 {
     match finish {
         Finish::Events => Some(LastLine::TooLarge(Which::Events)),
+        Finish::Objects => Some(LastLine::TooLarge(Which::Objects)),
         Finish::Unbuilt(line) => Some(LastLine::BadInput(line, LineFault::Unbuilt)),
         Finish::Text(Ending::Ended) => Some(LastLine::Done(events)),
         Finish::Text(Ending::Stopped(stop)) => stop_line(stop, filled),

@@ -2,7 +2,6 @@
 //! transcript to standard output.
 #![tactic(auto)]
 
-mod actor;
 mod built;
 mod call;
 mod closing;
@@ -11,15 +10,16 @@ mod limits;
 #[cfg(test)]
 mod malformed;
 mod play;
-mod steps;
+#[cfg(test)]
+mod rows;
 mod streams;
 #[cfg(test)]
 mod tests;
-mod world;
 
 use call::scfs;
 use closing::Status;
 use limits::EVENTS_LIMIT;
+use scfs_policy::{RankFacts, RankRule};
 use std::process::ExitCode;
 use std::{env, io};
 use streams::{Incoming, Outgoing};
@@ -44,7 +44,8 @@ fn main(rt: HostRuntime) -> ExitCode {
         Ok(words) => {
             let mut input = Incoming::new(rt.reader());
             let mut out = Outgoing::new(io::writer(&rt));
-            scfs(rt.alloc(), words.as_slice(), &mut input, &mut out)
+            let rank = RankRule::new(|facts: RankFacts| u64::from(facts.bad));
+            scfs(rt.alloc(), words.as_slice(), &mut input, &mut out, &rank)
         }
         Err(_) => Status::Memory,
     };

@@ -4,6 +4,7 @@ use crate::call::scfs;
 use crate::closing::Status;
 use crate::tests::HEADER;
 use scfs_base::{Bytes, MemSink, MemSource};
+use scfs_policy::{RankFacts, RankRule};
 use std::alloc::Global;
 use std::process::Abort;
 use std::test::Fail;
@@ -89,20 +90,17 @@ const PATHS: [&str; 10] = [
 ];
 
 /// Each is in form, and the program can't do it yet.
-const UNBUILT: [&str; 16] = [
+const UNBUILT: [&str; 13] = [
     "call 0 mkdir /a",
-    "call 0 stat /",
-    "call 0 stat /a/b",
-    "call 0 create /A",
-    "call 0 read 1 0 5",
-    "call 0 write 1 0 00ff",
+    "call 0 rmdir /a",
+    "call 0 unlink /a",
+    "call 0 list /",
+    "call 0 rename /a /b",
+    "call 0 openat /a 1",
     "call 0 sync",
+    "call 0 versions /a",
+    "call 0 collect /a",
     "call 0 purge",
-    "later 0",
-    "serve 3",
-    "say 0 names /a",
-    "give 1",
-    "turn 0",
     "tick 5",
     "crash 0",
     "start 0",
@@ -170,7 +168,7 @@ const AGENTS: [(&str, u64, &str); 10] = [
         "unbuilt",
     ),
     (
-        "scfs 1\nf 1\nlease 100\nstale 0\nagent 0 blocking 0000000000000000000000000000000000000000000000000000000000000000\nagent 1 blocking 0000000000000000000000000000000000000000000000000000000000000000\nbegin\n",
+        "scfs 1\nf 1\nlease 100\nstale 0\nagent 0 blocking 0000000000000000000000000000000000000000000000000000000000000000\nagent 1 nonblocking 0000000000000000000000000000000000000000000000000000000000000000\nbegin\n",
         7,
         "unbuilt",
     ),
@@ -183,7 +181,8 @@ fn replayed(alloc: Global, text: &str) -> Result<(Status, String), Fail> {
     let bytes = Bytes::from_slice(alloc, text.as_bytes())?;
     let mut input = MemSource::new(bytes, Vec::new(alloc), Vec::new(alloc));
     let mut out = MemSink::new(alloc, Vec::new(alloc));
-    let status = scfs(alloc, words.as_slice(), &mut input, &mut out);
+    let rank = RankRule::new(|facts: RankFacts| u64::from(facts.bad));
+    let status = scfs(alloc, words.as_slice(), &mut input, &mut out, &rank);
     Ok((status, String::from_utf8_lossy(alloc, out.written())?))
 }
 
@@ -277,4 +276,15 @@ fn an_input_that_is_too_long(rt: HostRuntime) -> Result<(), Fail> {
     let line = format!(in rt.alloc(); "call 0 stat /{name}\n")?;
     let events = repeated(rt.alloc(), line.as_str(), 251_000)?;
     passes(&rt, events.as_str(), "no 0 1 Busy\nstop 6 input\n")
+}
+
+/// A close of 65,536 bytes leaves Puts of 32,937 bytes in the queues; each copy of one carries 64 bytes more.
+#[test]
+fn more_bytes_than_a_run_may_carry(rt: HostRuntime) -> Result<(), Fail> {
+    let copies = repeated(rt.alloc(), "again 0\n", 16_270)?;
+    let events = format!(in rt.alloc();
+        "call 0 create /a\nspace 0\ntold 0\ncall 0 open /a w\nspace 0\ntold 0\n\
+        call 0 truncate 1 65536\ncall 0 close 1\n{copies}end\n"
+    )?;
+    passes(&rt, events.as_str(), "stop 6 objects\n")
 }

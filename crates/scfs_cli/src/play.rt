@@ -1,24 +1,30 @@
 ghost use Rattle.std.specs.Prelude.{◌≡◌, ◌+◌, ◌<◌, ◌≤◌, List, ℕ, [], ◌∷◌, IfOk, OnOk, true, Some, None};
 ghost use Rattle.std.specs.List.{flat_map};
-ghost use Rattle.scfs_base.specs.Outside.{Rose};
-ghost use Rattle.scfs_schedule.specs.Grammar.{IsEvent};
+ghost use Rattle.scfs_base.specs.Outside.{Puts, Rose};
+ghost use Rattle.scfs_cli.specs.Edges.{GetsFront};
+ghost use Rattle.scfs_policy.specs.Rank.{IsRankRule};
+ghost use Rattle.scfs_schedule.specs.Grammar.{IsEvent, IsHeader};
 ghost use Rattle.scfs_schedule.specs.Reading.{IsAtEvents, IsDrained, gives};
 ghost use Rattle.scfs_schedule.specs.Text.{numbered};
 ghost use Rattle.scfs_schedule.specs.declared.types.Header.{Header};
-ghost use Rattle.scfs_model.specs.History.{Entry};
-ghost use Rattle.scfs_cli.specs.Built.{is_built_event};
+ghost use Rattle.scfs_model.specs.Built.{is_built};
+ghost use Rattle.scfs_model.specs.History.{History};
+ghost use Rattle.scfs_world.specs.Laws.{BringsBytes};
+ghost use Rattle.scfs_world.specs.Standing.{Stands};
+ghost use Rattle.scfs_world.specs.State.{WorldState};
+ghost use Rattle.scfs_world.specs.Worlds.{IsWorld};
 ghost use Rattle.scfs_cli.specs.Playing.{events_played, finish_at, played};
 ghost use Rattle.scfs_cli.specs.declared.closing.Finish.{Finish};
 ghost use Rattle.scfs_cli.specs.Plays.{Begins, GoesOn, Plays, PlaysEvents, Turns};
-ghost use Rattle.scfs_cli.specs.Stands.{IsWorld, Stands};
 
 use crate::EVENTS_LIMIT;
 use crate::built::{finish_at, is_built_header};
 use crate::closing::Finish;
 use crate::edges::write_all;
-use crate::world::World;
 use scfs_base::{Bytes, Failed, Memory, Sink};
+use scfs_policy::{RankFacts, RankRule};
 use scfs_schedule::{Ending, Event, Header, Item, Line, Reader, Stop, push_line};
+use scfs_world::{StepFault, Stepped, World, brings_bytes};
 use std::alloc::Global;
 
 /// How playing a schedule ended: it came to its finish after so many events, writing failed, or memory was wanting.
@@ -29,12 +35,13 @@ pub enum Played {
     Memory,
 }
 
-/// How one event's turn ended: its lines were written, or it ends what is played and nothing was done, or writing failed, or
-/// memory was wanting.
-#[derive(Clone, Copy, Debug, PartialEq, Eq)]
+/// How one event's turn ended: its lines were written, and this is the world now; or it ends what is played and nothing was
+/// done; or it would carry too many bytes; or writing failed, or memory was wanting.
+#[derive(Drop)]
 pub enum Turn {
-    Done,
+    Done(World),
     Finished(Finish),
+    TooLarge,
     WriteFault,
     Memory,
 }
@@ -51,85 +58,115 @@ fn text_of(alloc: Global, number: u64, lines: &[Line]) -> Result<Bytes, Memory>
 }
 
 /// Steps the world by an event and writes its lines.
-fn take_turn<O: Sink>(alloc: Global, world: &mut World, event: &Event, out: &mut O) -> Turn
-    requires world { IsWorld world.old }
-    requires event { IsEvent world.old.header event.now }
-    requires built { is_built_event event.now ≡ true }
-    requires room { world.old.events < EVENTS_LIMIT }
-    ensures turns { (header : Header) (past : List Entry) → Stands world.old header past →
-        Turns header past event.now (O.written out.old) (O.written out.new) world.new result }
-    ensures world { result ≡ Turn.Done → IsWorld world.new }
-    ensures header { result ≡ Turn.Done → world.new.header ≡ world.old.header }
-    ensures count { result ≡ Turn.Done → world.new.events ≡ world.old.events + 1 }
+fn take_turn<O: Sink, R: Fn(RankFacts) -> u64>(
+    alloc: Global,
+    world: World,
+    event: &Event,
+    rank: &RankRule<R>,
+    out: &mut O,
+) -> Turn
+    requires world { IsWorld world }
+    requires event { IsEvent world.header event.now }
+    requires built { is_built event.now ≡ true }
+    requires room { world.events < EVENTS_LIMIT }
+    requires rank { IsRankRule (R.pre rank.now) }
+    ensures turns { (header : Header) (past : History) → Stands world header past →
+        Turns (R.post rank.now) header past event.now (O.written out.old) (O.written out.new) result }
+    ensures done { (next : WorldState) → result ≡ Turn.Done next → (next.header ≡ world.header) × (next.events ≡ world.events + 1) }
+    ensures world { (next : WorldState) → result ≡ Turn.Done next → IsWorld next }
     ensures goes_on { (finish : Finish) → result ≡ Turn.Finished finish → ⊥ }
     ensures fault { result ≡ Turn.WriteFault → Rose (O.faults out.old) (O.faults out.new) }
     ensures later { O.faults out.old ≤ O.faults out.new }
 {
-    let Ok(lines) = world.step(event) else {
-        return Turn::Memory;
-    };
-    let Ok(text) = text_of(alloc, world.events, lines.as_slice()) else {
+    match world.step(event, rank) {
+        Err(end) => match end.fault {
+            StepFault::TooLarge => Turn::TooLarge,
+            StepFault::Memory => Turn::Memory,
+        },
+        Ok(stepped) => write_lines(alloc, stepped, out),
+    }
+}
+
+/// Writes the lines of the event that a world did last.
+fn write_lines<O: Sink>(alloc: Global, stepped: Stepped, out: &mut O) -> Turn
+    ensures done { (next : WorldState) → result ≡ Turn.Done next →
+        (next ≡ stepped.world) × Puts (O.written out.old) (O.written out.new) (flat_map (numbered stepped.world.events) stepped.lines) }
+    ensures goes_on { (finish : Finish) → result ≡ Turn.Finished finish → ⊥ }
+    ensures small { result ≡ Turn.TooLarge → ⊥ }
+    ensures front { result ≡ Turn.WriteFault → GetsFront (O.written out.old) (O.written out.new) (flat_map (numbered stepped.world.events) stepped.lines) }
+    ensures nothing { result ≡ Turn.Memory → O.written out.new ≡ O.written out.old }
+    ensures fault { result ≡ Turn.WriteFault → Rose (O.faults out.old) (O.faults out.new) }
+    ensures later { O.faults out.old ≤ O.faults out.new }
+{
+    let Stepped { world, lines } = stepped;
+    let Ok(text) = text_of(alloc, world.events(), lines.as_slice()) else {
         return Turn::Memory;
     };
     match write_all(out, text.as_slice()) {
-        Ok(()) => Turn::Done,
+        Ok(()) => Turn::Done(world),
         Err(Failed) => Turn::WriteFault,
     }
 }
 
 /// The turn of an event in the line of this number, unless it ends what is played.
-fn take_event<O: Sink>(
+fn take_event<O: Sink, R: Fn(RankFacts) -> u64>(
     alloc: Global,
     line: u64,
-    world: &mut World,
+    world: World,
     event: &Event,
+    rank: &RankRule<R>,
     out: &mut O,
 ) -> Turn
-    requires world { IsWorld world.old }
-    requires event { IsEvent world.old.header event.now }
-    requires room { world.old.events ≤ EVENTS_LIMIT }
-    ensures turns { (header : Header) (past : List Entry) → Stands world.old header past →
-        Turns header past event.now (O.written out.old) (O.written out.new) world.new result }
+    requires world { IsWorld world }
+    requires event { IsEvent world.header event.now }
+    requires room { world.events ≤ EVENTS_LIMIT }
+    requires rank { IsRankRule (R.pre rank.now) }
+    ensures turns { (header : Header) (past : History) → Stands world header past →
+        Turns (R.post rank.now) header past event.now (O.written out.old) (O.written out.new) result }
     ensures finish { (finish : Finish) → result ≡ Turn.Finished finish →
-        (finish_at line world.old.events event.now ≡ Some finish) × (world.new ≡ world.old) × (O.written out.new ≡ O.written out.old) }
-    ensures played { result ≡ Turn.Done → finish_at line world.old.events event.now ≡ None }
-    ensures begun { result ≡ Turn.WriteFault → finish_at line world.old.events event.now ≡ None }
-    ensures world { result ≡ Turn.Done → IsWorld world.new }
-    ensures header { result ≡ Turn.Done → world.new.header ≡ world.old.header }
-    ensures count { result ≡ Turn.Done → (world.new.events ≡ world.old.events + 1) × (world.new.events ≤ EVENTS_LIMIT) }
+        (finish_at line world.events event.now ≡ Some finish) × (O.written out.new ≡ O.written out.old) }
+    ensures done { (next : WorldState) → result ≡ Turn.Done next →
+        (finish_at line world.events event.now ≡ None) × (next.header ≡ world.header) × (next.events ≡ world.events + 1) × (next.events ≤ EVENTS_LIMIT) }
+    ensures world { (next : WorldState) → result ≡ Turn.Done next → IsWorld next }
+    ensures too_large { result ≡ Turn.TooLarge → finish_at line world.events event.now ≡ None }
+    ensures begun { result ≡ Turn.WriteFault → finish_at line world.events event.now ≡ None }
     ensures fault { result ≡ Turn.WriteFault → Rose (O.faults out.old) (O.faults out.new) }
     ensures later { O.faults out.old ≤ O.faults out.new }
 {
-    match finish_at(line, world.events, event) {
+    match finish_at(line, world.events(), event) {
         Some(finish) => Turn::Finished(finish),
-        None => take_turn(alloc, world, event, out),
+        None => take_turn(alloc, world, event, rank, out),
     }
 }
 
 /// The same of an event that is then over.
-fn play_event<O: Sink>(
+fn play_event<O: Sink, R: Fn(RankFacts) -> u64>(
     alloc: Global,
     line: u64,
-    world: &mut World,
+    world: World,
     event: Event,
+    rank: &RankRule<R>,
     out: &mut O,
 ) -> Turn
-    requires world { IsWorld world.old }
-    requires event { IsEvent world.old.header event }
-    requires room { world.old.events ≤ EVENTS_LIMIT }
-    ensures turns { (header : Header) (past : List Entry) → Stands world.old header past →
-        Turns header past event (O.written out.old) (O.written out.new) world.new result }
+    requires world { IsWorld world }
+    requires event { IsEvent world.header event }
+    requires room { world.events ≤ EVENTS_LIMIT }
+    requires rank { IsRankRule (R.pre rank.now) }
+    ensures turns { (header : Header) (past : History) → Stands world header past →
+        Turns (R.post rank.now) header past event (O.written out.old) (O.written out.new) result }
     ensures finish { (finish : Finish) → result ≡ Turn.Finished finish →
-        (finish_at line world.old.events event ≡ Some finish) × (world.new ≡ world.old) × (O.written out.new ≡ O.written out.old) }
-    ensures played { result ≡ Turn.Done → finish_at line world.old.events event ≡ None }
-    ensures begun { result ≡ Turn.WriteFault → finish_at line world.old.events event ≡ None }
-    ensures world { result ≡ Turn.Done → IsWorld world.new }
-    ensures header { result ≡ Turn.Done → world.new.header ≡ world.old.header }
-    ensures count { result ≡ Turn.Done → (world.new.events ≡ world.old.events + 1) × (world.new.events ≤ EVENTS_LIMIT) }
+        (finish_at line world.events event ≡ Some finish) × (O.written out.new ≡ O.written out.old) }
+    ensures done { (next : WorldState) → result ≡ Turn.Done next →
+        (finish_at line world.events event ≡ None) × (next.header ≡ world.header) × (next.events ≡ world.events + 1) × (next.events ≤ EVENTS_LIMIT) }
+    ensures world { (next : WorldState) → result ≡ Turn.Done next → IsWorld next }
+    ensures too_large { result ≡ Turn.TooLarge → finish_at line world.events event ≡ None }
+    ensures begun { result ≡ Turn.WriteFault → finish_at line world.events event ≡ None }
+    ensures brings { BringsBytes event }
     ensures fault { result ≡ Turn.WriteFault → Rose (O.faults out.old) (O.faults out.new) }
     ensures later { O.faults out.old ≤ O.faults out.new }
 {
-    take_event(alloc, line, world, &event, out)
+    brings_bytes(&event);
+    take_event(alloc, line, world, &event, rank, out)
 }
 
 /// How the text ends of which the reader gave all that it was fed.
@@ -159,30 +196,37 @@ fn next_event(reader: &mut Reader) -> Result<Result<Event, Ending>, Memory>
 }
 
 /// Plays the events that the reader still gives.
-fn play_events<O: Sink>(
+fn play_events<O: Sink, R: Fn(RankFacts) -> u64>(
     alloc: Global,
     reader: &mut Reader,
-    world: &mut World,
+    world: World,
+    rank: &RankRule<R>,
     out: &mut O,
 ) -> Played
-    requires place { IsAtEvents reader.old world.old.header }
-    requires stands { Stands world.old world.old.header [] }
-    requires world { IsWorld world.old }
-    ensures plays { PlaysEvents world.old.header
+    requires place { IsAtEvents reader.old world.header }
+    requires header { IsHeader world.header }
+    requires stands { Stands world world.header [] }
+    requires world { IsWorld world }
+    requires events { world.events ≡ 0 }
+    requires rank { IsRankRule (R.pre rank.now) }
+    ensures plays { PlaysEvents (R.post rank.now) world.header
         (events_played (reader.old.lines + 1) 0 (gives reader.old []).events (gives reader.old []).ending)
         (O.written out.old) (O.written out.new) result }
     ensures fault { result ≡ Played.WriteFault → Rose (O.faults out.old) (O.faults out.new) }
     ensures later { O.faults out.old ≤ O.faults out.new }
 {
+    let mut world = world;
     'events: loop {
         let Ok(next) = next_event(reader) else {
             return Played::Memory;
         };
+        let count = world.events();
         match next {
-            Err(ending) => return Played::Ended(world.events, Finish::Text(ending)),
-            Ok(event) => match play_event(alloc, reader.line(), world, event, out) {
-                Turn::Done => {}
-                Turn::Finished(finish) => return Played::Ended(world.events, finish),
+            Err(ending) => return Played::Ended(count, Finish::Text(ending)),
+            Ok(event) => match play_event(alloc, reader.line(), world, event, rank, out) {
+                Turn::Done(after) => world = after,
+                Turn::Finished(finish) => return Played::Ended(count, finish),
+                Turn::TooLarge => return Played::Ended(count, Finish::Objects),
                 Turn::WriteFault => return Played::WriteFault,
                 Turn::Memory => return Played::Memory,
             },
@@ -205,9 +249,15 @@ fn first_header(reader: &mut Reader) -> Result<Result<Header, Ending>, Memory>
 }
 
 /// Plays a schedule from its header on.
-pub fn play<O: Sink>(alloc: Global, reader: &mut Reader, out: &mut O) -> Played
-    requires { (header : Header) → ¬ IsAtEvents reader.old header }
-    ensures plays { Plays (played (gives reader.old [])) (O.written out.old) (O.written out.new) result }
+pub fn play<O: Sink, R: Fn(RankFacts) -> u64>(
+    alloc: Global,
+    reader: &mut Reader,
+    rank: &RankRule<R>,
+    out: &mut O,
+) -> Played
+    requires place { (header : Header) → ¬ IsAtEvents reader.old header }
+    requires rank { IsRankRule (R.pre rank.now) }
+    ensures plays { Plays (R.post rank.now) (played (gives reader.old [])) (O.written out.old) (O.written out.new) result }
     ensures fault { result ≡ Played.WriteFault → Rose (O.faults out.old) (O.faults out.new) }
     ensures later { O.faults out.old ≤ O.faults out.new }
 {
@@ -222,7 +272,7 @@ pub fn play<O: Sink>(alloc: Global, reader: &mut Reader, out: &mut O) -> Played
         return Played::Ended(0, Finish::Unbuilt(reader.line()));
     }
     match World::new(alloc, header) {
-        Ok(mut world) => play_events(alloc, reader, &mut world, out),
+        Ok(world) => play_events(alloc, reader, world, rank, out),
         Err(Memory) => Played::Memory,
     }
 }

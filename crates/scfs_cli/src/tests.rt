@@ -1,6 +1,7 @@
 use crate::call::scfs;
 use crate::closing::Status;
 use scfs_base::{Bytes, MemSink, MemSource};
+use scfs_policy::{RankFacts, RankRule};
 use std::alloc::Global;
 use std::process::Abort;
 use std::test::Fail;
@@ -16,20 +17,23 @@ const TRANSCRIPT: &str =
 /// A run of the program over memory: what stands on the input, the lengths of the pieces that it is read in, and the numbers
 /// of the reads and writes that fail.
 #[derive(Clone, Copy)]
-struct Run<'a> {
-    words: &'a [&'a str],
-    input: &'a [&'a str],
-    piece: Option<u32>,
-    failing_read: Option<u64>,
-    failing_write: Option<u64>,
+pub struct Run<'a> {
+    pub words: &'a [&'a str],
+    pub input: &'a [&'a str],
+    pub piece: Option<u32>,
+    pub failing_read: Option<u64>,
+    pub failing_write: Option<u64>,
+    /// Clouds are ranked by their good answers, in place of their bad ones.
+    pub by_good: bool,
 }
 
-const REPLAY: Run<'static> = Run {
+pub const REPLAY: Run<'static> = Run {
     words: &["replay"],
     input: &[],
     piece: None,
     failing_read: None,
     failing_write: None,
+    by_good: false,
 };
 
 fn one<T: Drop>(alloc: Global, item: Option<T>) -> Result<Vec<T>, Fail> {
@@ -58,12 +62,16 @@ fn outcome(alloc: Global, run: Run<'_>) -> Result<(Status, String), Fail> {
     }
     let mut input = MemSource::new(text, pieces, one(alloc, run.failing_read)?);
     let mut out = MemSink::new(alloc, one(alloc, run.failing_write)?);
-    let status = scfs(alloc, words.as_slice(), &mut input, &mut out);
+    let by_good = run.by_good;
+    let rank = RankRule::new(|facts: RankFacts| {
+        u64::from(if by_good { facts.good } else { facts.bad })
+    });
+    let status = scfs(alloc, words.as_slice(), &mut input, &mut out, &rank);
     Ok((status, String::from_utf8_lossy(alloc, out.written())?))
 }
 
 /// Compares a run's status and output with what is wanted.
-fn expect(
+pub fn expect(
     rt: &(impl Abort + AllocGlobal),
     run: Run<'_>,
     status: Status,

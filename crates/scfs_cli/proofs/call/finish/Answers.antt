@@ -9,15 +9,15 @@ use Rattle.scfs_cli.proofs.call.finish.Goals as goal
 pub returns-in-WriteFault-clause-replays : goal.returns-in-WriteFault-clause-replays
 returns-in-WriteFault-clause-replays g c = λ taken is.
     let written = g.O.Sink.written in
-    fault_text taken c.args.filled (played (gives c.args.reader.now [])) (written c.args.out.now) (written c.play.new.out) (ap played is) c.in-WriteFault.ensures.plays
+    fault_text _ taken c.args.filled (played (gives c.args.reader.now [])) (written c.args.out.now) (written c.play.new.out) (ap played is) c.in-WriteFault.ensures.plays
 
 pub returns-in-Memory-clause-replays : goal.returns-in-Memory-clause-replays
 returns-in-Memory-clause-replays g c = λ taken is.
     let written = g.O.Sink.written in
-    memory_text taken c.args.filled (played (gives c.args.reader.now [])) (written c.args.out.now) (written c.play.new.out) (ap played is) c.in-Memory.ensures.plays
+    memory_text _ taken c.args.filled (played (gives c.args.reader.now [])) (written c.args.out.now) (written c.play.new.out) (ap played is) c.in-Memory.ensures.plays
 
 pub returns-in-Some-clause-replays : goal.returns-in-Some-clause-replays
 returns-in-Some-clause-replays g c = λ taken is.
     let written = g.O.Sink.written in
     let closes = subst (λ (line : Option LastLine). Closes line (written c.play.new.out) (written c.close.new.out) c.close.result) c.in-Some.ensures c.close.ensures.closes in
-    closed_text taken c.args.filled (played (gives c.args.reader.now [])) (written c.args.out.now) (written c.play.new.out) (written c.close.new.out) c.in-Ended.events c.in-Ended.finish c.close.result (ap played is) c.in-Ended.ensures.plays closes
+    closed_text _ taken c.args.filled (played (gives c.args.reader.now [])) (written c.args.out.now) (written c.play.new.out) (written c.close.new.out) c.in-Ended.events c.in-Ended.finish c.close.result (ap played is) c.in-Ended.ensures.plays closes

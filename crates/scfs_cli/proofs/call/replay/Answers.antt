@@ -19,7 +19,7 @@ returns-in-Memory-clause-replays g c =
         few = fills.few;
         full = λ is. cc;
         nothing_left = λ is. cc;
-        replays = memory_text fills.taken filleds.Memory whole before before refl (plays_nothing whole before);
+        replays = memory_text _ fills.taken filleds.Memory whole before before refl (plays_nothing _ whole before);
       };
       ended = λ is. cc;
       failed = λ is. cc;

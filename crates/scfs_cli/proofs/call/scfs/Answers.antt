@@ -1,6 +1,4 @@
-use Rattle.std.proofs.Common.{length, false}
-use Rattle.scfs_schedule.specs.Reading.{read}
-use Rattle.scfs_cli.specs.Playing.{played}
+use Rattle.std.proofs.Common.{length}
 use Rattle.scfs_cli.proofs.ClosingLemmas.{never_usage, read_fault}
 use Rattle.scfs_cli.proofs.call.scfs.Goals as goal
 
@@ -8,10 +6,10 @@ pub returns-in-len1-clause-usage_only : goal.returns-in-len1-clause-usage_only
 returns-in-len1-clause-usage_only g c = λ is.
     let all = c.replay.ensures.replays in
     let text = all.replays.replays in
-    absurd (never_usage (length text.past) (played (read false all.replays.taken)).finish all.filled c.replay.result text.decided is)
+    absurd (never_usage (length text.past) text.finish all.filled c.replay.result text.decided is)
 
 pub returns-in-len1-clause-read_fault : goal.returns-in-len1-clause-read_fault
 returns-in-len1-clause-read_fault g c = λ is.
     let all = c.replay.ensures.replays in
     let text = all.replays.replays in
-    all.failed (read_fault (length text.past) (played (read false all.replays.taken)).finish all.filled c.replay.result text.decided is)
+    all.failed (read_fault (length text.past) text.finish all.filled c.replay.result text.decided is)

@@ -1,9 +1,10 @@
-use Rattle.std.proofs.Common.{◌≡◌, ◌≤◌, ◌+◌, List, [], ℕ, length}
+use Rattle.std.proofs.Common.{◌≡◌, ◌≤◌, ◌+◌, [], length}
 use Rattle.scfs_base.specs.Outside.{Puts}
 use Rattle.scfs_schedule.specs.Reading.{IsAtEvents, gives}
-use Rattle.scfs_model.specs.History.{Entry, transcript}
-use Rattle.scfs_model.specs.Run.{Run}
-use Rattle.scfs_cli.specs.Stands.{IsWorld, Stands}
+use Rattle.scfs_model.specs.History.{History, transcript}
+use Rattle.scfs_world.specs.Standing.{Stands}
+use Rattle.scfs_world.specs.Worlds.{IsWorld}
+use Rattle.scfs_cli.specs.Happening.{IsPlayed}
 use Rattle.scfs_cli.specs.declared.limits.TheConstants.{EVENTS_LIMIT}
 use Rattle.scfs_cli.proofs.HistoryLemmas.{with_past, AllPlayed}
 use Rattle.scfs_cli.proofs.play.play_events.Given as goal
@@ -12,9 +13,9 @@ abbrev pub invariant-events : goal.invariant-events
 invariant-events g l =
     let header = l.initial.world.header in
     record {
-      past : List Entry;
+      past : History;
       stands : Stands l.world header past;
-      run : Run header past;
+      plays : IsPlayed (λ facts answer. g.R.Fn.post l.rank (facts, tt) answer) header past;
       wrote : Puts (g.O.Sink.written l.initial.out) (g.O.Sink.written l.out) (transcript past);
       reads : gives l.initial.reader [] ≡ with_past past (gives l.reader []);
       place : IsAtEvents l.reader header;
@@ -22,6 +23,7 @@ invariant-events g l =
       under : l.world.header ≡ header;
       played : AllPlayed (l.initial.reader.lines + 1) past;
       lines : l.reader.lines ≡ l.initial.reader.lines + length past;
+      count : l.world.events ≡ length past;
       few : l.world.events ≤ EVENTS_LIMIT;
       later : g.O.Sink.faults l.initial.out ≤ g.O.Sink.faults l.out;
     }
