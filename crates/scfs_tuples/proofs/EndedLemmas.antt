@@ -7,7 +7,7 @@ use Rattle.std.specs.Ordering.{is_eq, is_gt, nat_cmp, ordering_then}
 use Rattle.std.specs.declared.cmp.Ordering.{Ordering}
 use Rattle.std.specs.declared.cmp.Ordering.TheVariants.{Less, Equal, Greater}
 use Rattle.scfs_tuples.specs.After.{is_live}
-use Rattle.scfs_tuples.specs.Filed.{Apart, IsEnded, IsFree, end_cmp, ends_in, is_end, is_slot, live_entries, slots_of, tuple_at, without}
+use Rattle.scfs_tuples.specs.Filed.{Apart, IsEnded, IsFree, end_cmp, ends_in, has_both, is_end, is_slot, live_entries, slots_of, tuple_at, without}
 use Rattle.scfs_tuples.specs.Near.{has}
 use Rattle.scfs_tuples.specs.declared.types.Field.{Field}
 use Rattle.scfs_tuples.specs.declared.types.Tuple.{Tuple}
@@ -95,13 +95,12 @@ pub is_ended : (now until slot : ℕ) (ends : BTreeSet (ℕ × ℕ)) (es : List 
     contains end_cmp ends (until, slot) ≡ true → until ≤ now → IsEnded now slot es
 is_ended now until slot ends es apart filed is h = ended_at now until slot es (tuple_at es slot) refl (sym (filed until slot) ∙ is) h apart
 
--- the slots of a filter, over equal fields and entries
-pub pair_slots : (n : ℕ) (slots : List ℕ) (f g first second : Field) (es others : List (ℕ × Tuple)) →
-    slots ≡ slots_of (filter (λ e. has 0 f e.1 && has n g e.1) es) → f ≡ first → g ≡ second → es ≡ others →
+-- the slots under a key of two fields, over an equal key and equal entries
+pub pair_slots : (n : ℕ) (slots : List ℕ) (key : Field × Field) (first second : Field) (es others : List (ℕ × Tuple)) →
+    slots ≡ slots_of (filter (λ e. has_both n key e.1) es) → key ≡ (first, second) → es ≡ others →
     slots ≡ slots_of (filter (λ e. has 0 first e.1 && has n second e.1) others)
-pair_slots n slots f g first second es others h p q r =
-    h ∙ ap (λ x. slots_of (filter (λ e. has 0 x e.1 && has n g e.1) es)) p ∙ ap (λ x. slots_of (filter (λ e. has 0 first e.1 && has n x e.1) es)) q
-    ∙ ap (λ l. slots_of (filter (λ e. has 0 first e.1 && has n second e.1) l)) r
+pair_slots n slots key first second es others h p q =
+    h ∙ ap (λ k. slots_of (filter (λ e. has_both n k e.1) es)) p ∙ ap (λ l. slots_of (filter (λ e. has 0 first e.1 && has n second e.1) l)) q
 
 -- a list of no length
 pub none_in : {X : Type 0} (ks : List X) → (0 < length ks → ⊥) → ks ≡ []

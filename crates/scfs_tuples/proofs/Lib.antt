@@ -2,6 +2,7 @@ pub mod ActLemmas
 pub mod EndedLemmas
 pub mod EndsLemmas
 pub mod EntriesLemmas
+pub mod FewerLemmas
 pub mod FiledLemmas
 pub mod NearLemmas
 pub mod OrderLemmas

@@ -1,14 +1,12 @@
-use Rattle.std.proofs.Common.{◌≡◌, ℕ, zero, suc, List, [], ◌∷◌, ◌++◌, Bool, true, false, refl, ap, ◌∙◌, sym, cond, Option, Some, None, arith, length}
+use Rattle.std.proofs.Common.{◌≡◌, ℕ, zero, suc, List, [], ◌∷◌, ◌++◌, Bool, true, false, refl, ap, ◌∙◌, sym, cond, Option, Some, None, arith}
 use Rattle.std.specs.Prelude.{is_some, not, slice_get}
 use Rattle.std.proofs.lemmas.Bool.Decides.{nat_tests}
-use Rattle.std.proofs.lemmas.List.{length-map}
 use Rattle.std.specs.BTreeSet.{BTreeSet, contains}
 use Rattle.std.specs.List.{filter}
 use Rattle.std.specs.Ordering.{is_eq, nat_cmp}
-use Rattle.scfs_tuples.specs.Bound.{near_count}
-use Rattle.scfs_tuples.specs.Filed.{Apart, IsFree, near_entries, slots_of, tuple_at, tuples_of}
+use Rattle.scfs_tuples.specs.Filed.{Apart, AreNear, IsFree, near_entries, slots_of, tuple_at, tuples_of}
 use Rattle.scfs_tuples.specs.Matching.{agrees, agrees_with, and_then, bind, field_eq, fits, is_match, row, want_agrees, want_fits}
-use Rattle.scfs_tuples.specs.Near.{fixed, fixed_at, fixed_in, has, is_field, is_near, is_near_to}
+use Rattle.scfs_tuples.specs.Near.{fixed, fixed_at, fixed_in, has, is_field, is_near, is_near_by}
 use Rattle.scfs_tuples.specs.Search.{entries_at, entry_of, first_entry, met_or, standing}
 use Rattle.scfs_tuples.specs.declared.types.Field.{Field}
 use Rattle.scfs_tuples.specs.declared.types.Tuple.{Tuple}
@@ -16,15 +14,6 @@ use Rattle.scfs_tuples.specs.declared.types.Want.{Want}
 use Rattle.scfs_tuples.specs.declared.types.Want.TheVariants as wants
 use Rattle.scfs_tuples.proofs.EntriesLemmas.{filter_swap}
 use Rattle.scfs_tuples.proofs.OrderLemmas.{both_true, slot_same}
-
-filter_true : {X : Type 0} (xs : List X) → filter (λ x. true) xs ≡ xs
-filter_true [] = refl
-filter_true (x ∷ xs) = ap (λ l. x ∷ l) (filter_true xs)
-
--- where the first want is not fixed, every entry is near
-pub near_all : (bound : List Field) (ws : List Want) (es : List (ℕ × Tuple)) → fixed_at bound ws 0 ≡ None → near_entries bound ws es ≡ es
-near_all bound ws es h =
-    ap (λ o. filter (λ e. is_near o (fixed_at bound ws 1) (fixed_at bound ws 2) e.1) es) h ∙ filter_true es
 
 get_more : (xs ys : List Field) (n : ℕ) (g : Field) → slice_get xs n ≡ Some g → slice_get (xs ++ ys) n ≡ Some g
 get_more [] ys n g h = absurd cc
@@ -98,31 +87,28 @@ agrees_has (w ∷ ws) [] bound n g h is = absurd cc
 agrees_has (w ∷ ws) (f ∷ fs) bound zero g h is = agrees_is w f bound g (both_true (want_agrees bound w f) (agrees bound ws fs) h).0 is
 agrees_has (w ∷ ws) (f ∷ fs) bound (suc n) g h is = agrees_has ws fs bound n g (both_true (want_agrees bound w f) (agrees bound ws fs) h).1 is
 
-near_true : (o p q : Option Field) (t : Tuple) → ((g : Field) → o ≡ Some g → has 0 g t ≡ true) → ((g : Field) → p ≡ Some g → has 1 g t ≡ true) → ((g : Field) → q ≡ Some g → has 2 g t ≡ true) → is_near o p q t ≡ true
-near_true None p q t first second third = refl
-near_true (Some f) (Some g) q t first second third = rw (first f refl, second g refl) refl
-near_true (Some f) None (Some h) t first second third = rw (first f refl, third h refl) refl
-near_true (Some f) None None t first second third = first f refl
+near_true : (n : ℕ) (o p : Option Field) (t : Tuple) → ((g : Field) → o ≡ Some g → has 0 g t ≡ true) → ((g : Field) → p ≡ Some g → has n g t ≡ true) → is_near n o p t ≡ true
+near_true n None p t first other = refl
+near_true n (Some f) None t first other = first f refl
+near_true n (Some f) (Some g) t first other = rw (first f refl, other g refl) refl
 
 truth : (b : Bool) → (b ≡ true → false ≡ true) → b ≡ false
 truth true h = sym (h refl)
 truth false h = refl
 
-fitting_near : (bound : List Field) (ws : List Want) (t : Tuple) (o : Option (List Field)) → fits ws t.fields bound ≡ o → is_some o ≡ true → is_near_to bound ws t ≡ true
-fitting_near bound ws t None is h = absurd cc
-fitting_near bound ws t (Some after) is h =
-    near_true (fixed_at bound ws 0) (fixed_at bound ws 1) (fixed_at bound ws 2) t
-    (λ g. fits_has ws t.fields bound after 0 g is) (λ g. fits_has ws t.fields bound after 1 g is) (λ g. fits_has ws t.fields bound after 2 g is)
+fitting_near : (n : ℕ) (bound : List Field) (ws : List Want) (t : Tuple) (o : Option (List Field)) → fits ws t.fields bound ≡ o → is_some o ≡ true → is_near_by n bound ws t ≡ true
+fitting_near n bound ws t None is h = absurd cc
+fitting_near n bound ws t (Some after) is h =
+    near_true n (fixed_at bound ws 0) (fixed_at bound ws n) t (λ g. fits_has ws t.fields bound after 0 g is) (λ g. fits_has ws t.fields bound after n g is)
 
 -- what is not near does not fit
-pub far_match : (bound : List Field) (ws : List Want) (t : Tuple) → is_near_to bound ws t ≡ false → is_match ws bound t ≡ false
-far_match bound ws t h = truth (is_match ws bound t) (λ m. sym h ∙ fitting_near bound ws t (fits ws t.fields bound) refl m)
+pub far_match : (n : ℕ) (bound : List Field) (ws : List Want) (t : Tuple) → is_near_by n bound ws t ≡ false → is_match ws bound t ≡ false
+far_match n bound ws t h = truth (is_match ws bound t) (λ m. sym h ∙ fitting_near n bound ws t (fits ws t.fields bound) refl m)
 
-pub far_agrees : (bound : List Field) (ws : List Want) (t : Tuple) → is_near_to bound ws t ≡ false → agrees bound ws t.fields ≡ false
-far_agrees bound ws t h =
+pub far_agrees : (n : ℕ) (bound : List Field) (ws : List Want) (t : Tuple) → is_near_by n bound ws t ≡ false → agrees bound ws t.fields ≡ false
+far_agrees n bound ws t h =
     truth (agrees bound ws t.fields)
-    (λ m. sym h ∙ near_true (fixed_at bound ws 0) (fixed_at bound ws 1) (fixed_at bound ws 2) t
-    (λ g. agrees_has ws t.fields bound 0 g m) (λ g. agrees_has ws t.fields bound 1 g m) (λ g. agrees_has ws t.fields bound 2 g m))
+    (λ m. sym h ∙ near_true n (fixed_at bound ws 0) (fixed_at bound ws n) t (λ g. agrees_has ws t.fields bound 0 g m) (λ g. agrees_has ws t.fields bound n g m))
 
 -- a filter that keeps what passes the test
 pub filter_wide : {X : Type 0} (p q : X → Bool) → ((x : X) → q x ≡ false → p x ≡ false) → (xs : List X) → filter p (filter q xs) ≡ filter p xs
@@ -176,25 +162,27 @@ entries_back : (es ds : List (ℕ × Tuple)) → Held es ds → entries_at es (s
 entries_back es [] held = refl
 entries_back es (d ∷ ds) held = ap (λ o. entry_of d.0 o ++ entries_at es (slots_of ds)) held.0 ∙ ap (λ l. d ∷ l) (entries_back es ds held.1)
 
-near_back : (ws : List Want) (bound : List Field) (es : List (ℕ × Tuple)) (slots : List ℕ) → slots ≡ slots_of (near_entries bound ws es) → Apart es → entries_at es slots ≡ near_entries bound ws es
-near_back ws bound es slots is apart =
-    ap (entries_at es) is ∙ entries_back es (near_entries bound ws es) (held_filter (λ e. is_near_to bound ws e.1) es es (held_all es apart))
+near_back : (ws : List Want) (bound : List Field) (es : List (ℕ × Tuple)) (slots : List ℕ) (near : AreNear bound ws es slots) → Apart es →
+    entries_at es slots ≡ near_entries near.place bound ws es
+near_back ws bound es slots near apart =
+    ap (entries_at es) near.same
+    ∙ entries_back es (near_entries near.place bound ws es) (held_filter (λ e. is_near_by near.place bound ws e.1) es es (held_all es apart))
 
 -- the first match of the near slots is the first match
-pub near_first : (ws : List Want) (bound : List Field) (gone : BTreeSet ℕ) (es : List (ℕ × Tuple)) (slots : List ℕ) → slots ≡ slots_of (near_entries bound ws es) → Apart es →
+pub near_first : (ws : List Want) (bound : List Field) (gone : BTreeSet ℕ) (es : List (ℕ × Tuple)) (slots : List ℕ) → AreNear bound ws es slots → Apart es →
     first_entry ws (standing gone (entries_at es slots)) bound ≡ first_entry ws (standing gone es) bound
-near_first ws bound gone es slots is apart =
-    ap (λ l. first_entry ws (standing gone l) bound) (near_back ws bound es slots is apart)
-    ∙ ap (λ l. first_entry ws l bound) (filter_swap (λ e. not (contains nat_cmp gone e.0)) (λ e. is_near_to bound ws e.1) es)
-    ∙ first_wide ws bound (λ e. is_near_to bound ws e.1) (λ e. far_match bound ws e.1) (standing gone es)
+near_first ws bound gone es slots near apart =
+    ap (λ l. first_entry ws (standing gone l) bound) (near_back ws bound es slots near apart)
+    ∙ ap (λ l. first_entry ws l bound) (filter_swap (λ e. not (contains nat_cmp gone e.0)) (λ e. is_near_by near.place bound ws e.1) es)
+    ∙ first_wide ws bound (λ e. is_near_by near.place bound ws e.1) (λ e. far_match near.place bound ws e.1) (standing gone es)
 
 -- the matches of the near slots are the matches
-pub near_matches : (ws : List Want) (bound : List Field) (gone : BTreeSet ℕ) (es : List (ℕ × Tuple)) (slots : List ℕ) → slots ≡ slots_of (near_entries bound ws es) → Apart es →
+pub near_matches : (ws : List Want) (bound : List Field) (gone : BTreeSet ℕ) (es : List (ℕ × Tuple)) (slots : List ℕ) → AreNear bound ws es slots → Apart es →
     filter (λ e. is_match ws bound e.1) (standing gone (entries_at es slots)) ≡ filter (λ e. is_match ws bound e.1) (standing gone es)
-near_matches ws bound gone es slots is apart =
-    ap (λ l. filter (λ e. is_match ws bound e.1) (standing gone l)) (near_back ws bound es slots is apart)
-    ∙ ap (filter (λ e. is_match ws bound e.1)) (filter_swap (λ e. not (contains nat_cmp gone e.0)) (λ e. is_near_to bound ws e.1) es)
-    ∙ filter_wide (λ e. is_match ws bound e.1) (λ e. is_near_to bound ws e.1) (λ e. far_match bound ws e.1) (standing gone es)
+near_matches ws bound gone es slots near apart =
+    ap (λ l. filter (λ e. is_match ws bound e.1) (standing gone l)) (near_back ws bound es slots near apart)
+    ∙ ap (filter (λ e. is_match ws bound e.1)) (filter_swap (λ e. not (contains nat_cmp gone e.0)) (λ e. is_near_by near.place bound ws e.1) es)
+    ∙ filter_wide (λ e. is_match ws bound e.1) (λ e. is_near_by near.place bound ws e.1) (λ e. far_match near.place bound ws e.1) (standing gone es)
 
 tuples_at : (p : Tuple → Bool) (e : ℕ × Tuple) (es : List (ℕ × Tuple)) (b : Bool) → p e.1 ≡ b → tuples_of (filter (λ e. p e.1) es) ≡ filter p (tuples_of es) →
     tuples_of (filter (λ e. p e.1) (e ∷ es)) ≡ filter p (tuples_of (e ∷ es))
@@ -207,20 +195,13 @@ tuples_filter p [] = refl
 tuples_filter p (e ∷ es) = tuples_at p e es (p e.1) refl (tuples_filter p es)
 
 -- the row of the near slots is the row
-pub near_row : (ws : List Want) (bound : List Field) (es : List (ℕ × Tuple)) (slots : List ℕ) → slots ≡ slots_of (near_entries bound ws es) → Apart es →
+pub near_row : (ws : List Want) (bound : List Field) (es : List (ℕ × Tuple)) (slots : List ℕ) → AreNear bound ws es slots → Apart es →
     row bound (tuples_of (entries_at es slots)) ws ≡ row bound (tuples_of es) ws
-near_row ws bound es slots is apart =
-    ap (λ l. row bound (tuples_of l) ws) (near_back ws bound es slots is apart)
-    ∙ ap (filter (λ t. agrees bound ws t.fields)) (tuples_filter (is_near_to bound ws) es)
-    ∙ filter_wide (λ t. agrees bound ws t.fields) (is_near_to bound ws) (far_agrees bound ws) (tuples_of es)
+near_row ws bound es slots near apart =
+    ap (λ l. row bound (tuples_of l) ws) (near_back ws bound es slots near apart)
+    ∙ ap (filter (λ t. agrees bound ws t.fields)) (tuples_filter (is_near_by near.place bound ws) es)
+    ∙ filter_wide (λ t. agrees bound ws t.fields) (is_near_by near.place bound ws) (far_agrees near.place bound ws) (tuples_of es)
 
 -- all slots give all entries
 pub all_back : (es : List (ℕ × Tuple)) (slots : List ℕ) → slots ≡ slots_of es → Apart es → entries_at es slots ≡ es
 all_back es slots is apart = ap (entries_at es) is ∙ entries_back es es (held_all es apart)
-
--- how many slots are near
-pub near_length : (ws : List Want) (bound : List Field) (es : List (ℕ × Tuple)) (slots : List ℕ) → slots ≡ slots_of (near_entries bound ws es) →
-    length slots ≡ near_count bound ws (tuples_of es)
-near_length ws bound es slots is =
-    ap length is ∙ length-map (near_entries bound ws es) (λ e. e.0) ∙ sym (length-map (near_entries bound ws es) (λ e. e.1))
-    ∙ ap length (tuples_filter (is_near_to bound ws) es)

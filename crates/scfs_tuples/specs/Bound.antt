@@ -1,8 +1,8 @@
-use Rattle.std.specs.Prelude.{ℕ, ◌+◌, List, [], ◌∷◌, length, Option, Some, None, not}
+use Rattle.std.specs.Prelude.{ℕ, ◌+◌, List, [], ◌∷◌, length, min, Option, Some, None, not}
 use Rattle.std.specs.List.{filter}
 use Rattle.scfs_tuples.specs.After.{is_live, live}
 use Rattle.scfs_tuples.specs.Matching.{Match, first_match, without_first, without_matches}
-use Rattle.scfs_tuples.specs.Near.{is_near_to}
+use Rattle.scfs_tuples.specs.Near.{is_near_by}
 use Rattle.scfs_tuples.specs.declared.types.Field.{Field}
 use Rattle.scfs_tuples.specs.declared.types.Tuple.{Tuple}
 use Rattle.scfs_tuples.specs.declared.types.Want.{Want}
@@ -15,9 +15,10 @@ use Rattle.scfs_tuples.specs.declared.types.Step.{Step}
 abbrev pub ended : ℕ → List Tuple → List Tuple
 ended now ts = filter (λ t. not (is_live now t.until)) ts
 
--- how many of these tuples are near a pattern
+-- how many of these tuples are near a pattern: those equal in the first field, and in the second or third field where that is
+-- fixed, whichever are fewer
 abbrev pub near_count : List Field → List Want → List Tuple → ℕ
-near_count bound ws ts = length (filter (is_near_to bound ws) ts)
+near_count bound ws ts = min (length (filter (is_near_by 1 bound ws) ts)) (length (filter (is_near_by 2 bound ws) ts))
 
 -- those near each pattern of `all`
 abbrev pub row_looks : List Field → List Tuple → List Pattern → ℕ

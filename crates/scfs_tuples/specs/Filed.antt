@@ -1,4 +1,4 @@
-use Rattle.std.specs.Prelude.{◌≡◌, ℕ, ◌<◌, List, [], ◌∷◌, length, map, Option, Some, None, Bool, false, ◌&&◌, ◌==◌, not, if◌then◌else◌}
+use Rattle.std.specs.Prelude.{◌≡◌, ℕ, ◌<◌, List, [], ◌∷◌, length, map, Option, Some, None, Bool, false, ◌&&◌, ◌==◌, not, nat_lt, if◌then◌else◌}
 use Rattle.std.specs.declared.cmp.Ordering.{Ordering}
 use Rattle.std.specs.Ordering.{nat_cmp, ordering_then}
 use Rattle.std.specs.BTreeSet.{BTreeSet, contains}
@@ -6,8 +6,9 @@ use Rattle.std.specs.BTreeMap.{BTreeMap, is_at}
 use Rattle.std.specs.List.{filter}
 use Rattle.std.specs.Map.{lookup}
 use Rattle.scfs_tuples.specs.After.{is_live}
+use Rattle.scfs_tuples.specs.Bound.{near_count}
 use Rattle.scfs_tuples.specs.Index.{slots_at}
-use Rattle.scfs_tuples.specs.Near.{has, is_near_to}
+use Rattle.scfs_tuples.specs.Near.{has, is_near_by}
 use Rattle.scfs_tuples.specs.Order.{field_cmp}
 use Rattle.scfs_tuples.specs.declared.types.Field.{Field}
 use Rattle.scfs_tuples.specs.declared.types.Tuple.{Tuple}
@@ -34,9 +35,19 @@ tuple_at es slot = lookup (is_at (nat_cmp slot)) es
 abbrev pub without : ℕ → List (ℕ × Tuple) → List (ℕ × Tuple)
 without slot es = filter (λ e. not (is_slot slot e)) es
 
--- the entries whose tuples are near a pattern
-abbrev pub near_entries : List Field → List Want → List (ℕ × Tuple) → List (ℕ × Tuple)
-near_entries bound ws es = filter (λ e. is_near_to bound ws e.1) es
+-- the entries whose tuples are near a pattern by a further place
+abbrev pub near_entries : ℕ → List Field → List Want → List (ℕ × Tuple) → List (ℕ × Tuple)
+near_entries n bound ws es = filter (λ e. is_near_by n bound ws e.1) es
+
+-- the slots of the entries that are near a pattern by a further place, the one by which there are fewest
+pub record AreNear (bound : List Field) (ws : List Want) (es : List (ℕ × Tuple)) (slots : List ℕ) : Type 0 where
+  pub place : ℕ
+  pub same : slots ≡ slots_of (near_entries place bound ws es)
+  pub count : length slots ≡ near_count bound ws (tuples_of es)
+
+-- of two lists of slots the shorter, the first where they are equally long
+abbrev pub fewer : List ℕ → List ℕ → List ℕ
+fewer xs ys = if nat_lt (length ys) (length xs) then ys else xs
 
 -- the entries whose tuples are live at this moment
 abbrev pub live_entries : ℕ → List (ℕ × Tuple) → List (ℕ × Tuple)

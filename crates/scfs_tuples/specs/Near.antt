@@ -27,14 +27,13 @@ is_field f (Some g) = field_eq f g
 abbrev pub has : ℕ → Field → Tuple → Bool
 has n f t = is_field f (slice_get t.fields n)
 
--- a tuple is near where it has the first fixed field, and also the second where that is fixed, else the third where that is;
+-- a tuple is near by a further place where it has the first fixed field, and the one at that place where that is fixed as well;
 -- where the first is not fixed, every tuple is near
-abbrev pub is_near : Option Field → Option Field → Option Field → Tuple → Bool
-is_near None second third t = true
-is_near (Some f) (Some g) third t = has 0 f t && has 1 g t
-is_near (Some f) None (Some h) t = has 0 f t && has 2 h t
-is_near (Some f) None None t = has 0 f t
+abbrev pub is_near : ℕ → Option Field → Option Field → Tuple → Bool
+is_near n None other t = true
+is_near n (Some f) None t = has 0 f t
+is_near n (Some f) (Some g) t = has 0 f t && has n g t
 
--- a tuple that is near a pattern
-abbrev pub is_near_to : List Field → List Want → Tuple → Bool
-is_near_to bound ws t = is_near (fixed_at bound ws 0) (fixed_at bound ws 1) (fixed_at bound ws 2) t
+-- a tuple that is near a pattern by a further place
+abbrev pub is_near_by : ℕ → List Field → List Want → Tuple → Bool
+is_near_by n bound ws t = is_near n (fixed_at bound ws 0) (fixed_at bound ws n) t

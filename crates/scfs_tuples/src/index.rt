@@ -1,4 +1,4 @@
-ghost use Rattle.std.specs.Prelude.{◌≡◌, [], OnOk, IfOk};
+ghost use Rattle.std.specs.Prelude.{◌≡◌, [], OnOk, IfOk, length};
 ghost use Rattle.scfs_tuples.specs.Index.{Adds, Removes, slots_at};
 
 use scfs_base::Memory;
@@ -30,6 +30,16 @@ impl<K: Ord + Drop> Index<K> {
         match self.slots.get(key) {
             Some(slots) => Ok(slots.iter().copied().collect(self.alloc)?),
             None => Ok(Vec::new(self.alloc)),
+        }
+    }
+
+    /// How many slots stand under a key.
+    pub fn count(&self, key: &K) -> usize
+        ensures { result ≡ length (slots_at K.cmp self.now.slots key.now) }
+    {
+        match self.slots.get(key) {
+            Some(slots) => slots.len(),
+            None => 0,
         }
     }
 

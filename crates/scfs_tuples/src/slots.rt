@@ -2,8 +2,7 @@ ghost use Rattle.std.specs.Prelude.{◌≡◌, [], ◌∷◌, ◌++◌, ◌<◌,
 ghost use Rattle.std.specs.List.{filter};
 ghost use Rattle.std.specs.Option.{option_copied};
 ghost use Rattle.scfs_base.specs.InMemory.{one_more};
-ghost use Rattle.scfs_tuples.specs.Bound.{near_count};
-ghost use Rattle.scfs_tuples.specs.Filed.{Apart, IsEnded, IsFiled, live_entries, near_entries, slots_of, tuple_at, tuples_of, without};
+ghost use Rattle.scfs_tuples.specs.Filed.{Apart, AreNear, IsEnded, IsFiled, fewer, live_entries, slots_of, tuple_at, tuples_of, without};
 ghost use Rattle.scfs_tuples.specs.Near.{fixed_at, has};
 
 use crate::fields::copy_field;
@@ -91,12 +90,19 @@ impl Slots {
         Ok(self.shelves.by_first.at(first)?)
     }
 
+    /// Two fields as a key.
+    fn pair(&self, first: &Field, other: &Field) -> Result<(Field, Field), Memory>
+        ensures { IfOk result (λ key. key ≡ (first.now, other.now)) }
+    {
+        let alloc = self.shelves.alloc;
+        Ok((copy_field(alloc, first)?, copy_field(alloc, other)?))
+    }
+
     /// The slots of the tuples with these first and second fields, rising.
     pub(crate) fn with_second(&self, first: &Field, second: &Field) -> Result<Vec<u64>, Memory>
         ensures { IfOk result (λ slots. slots.items ≡ slots_of (filter (λ e. has 0 first.now e.1 && has 1 second.now e.1) self.now)) }
     {
-        let alloc = self.shelves.alloc;
-        let key = (copy_field(alloc, first)?, copy_field(alloc, second)?);
+        let key = self.pair(first, second)?;
         Ok(self.shelves.by_second.at(&key)?)
     }
 
@@ -104,15 +110,28 @@ impl Slots {
     pub(crate) fn with_third(&self, first: &Field, third: &Field) -> Result<Vec<u64>, Memory>
         ensures { IfOk result (λ slots. slots.items ≡ slots_of (filter (λ e. has 0 first.now e.1 && has 2 third.now e.1) self.now)) }
     {
-        let alloc = self.shelves.alloc;
-        let key = (copy_field(alloc, first)?, copy_field(alloc, third)?);
+        let key = self.pair(first, third)?;
         Ok(self.shelves.by_third.at(&key)?)
     }
 
-    /// The slots of the tuples that are near the pattern, rising.
+    /// The slots of the tuples with this first field, and with this second or this third one, whichever are fewer, rising.
+    fn with_fewer(&self, first: &Field, second: &Field, third: &Field) -> Result<Vec<u64>, Memory>
+        ensures { IfOk result (λ slots. slots.items ≡ fewer
+            (slots_of (filter (λ e. has 0 first.now e.1 && has 1 second.now e.1) self.now))
+            (slots_of (filter (λ e. has 0 first.now e.1 && has 2 third.now e.1) self.now))) }
+    {
+        let second = self.pair(first, second)?;
+        let third = self.pair(first, third)?;
+        if self.shelves.by_third.count(&third) < self.shelves.by_second.count(&second) {
+            return Ok(self.shelves.by_third.at(&third)?);
+        }
+        Ok(self.shelves.by_second.at(&second)?)
+    }
+
+    /// The slots of the tuples to look at for a pattern, rising: of those equal in the first field, and in the second or third
+    /// field where that is fixed, whichever are fewer.
     pub(crate) fn near(&self, wants: &[Want], bound: &[Field]) -> Result<Vec<u64>, Memory>
-        ensures slots { IfOk result (λ slots. slots.items ≡ slots_of (near_entries bound.now wants.now self.now)) }
-        ensures count { IfOk result (λ slots. length slots.items ≡ near_count bound.now wants.now (tuples_of self.now)) }
+        ensures near { IfOk result (λ slots. AreNear bound.now wants.now self.now slots.items) }
         ensures apart { Apart self.now }
     {
         let _ = &self.shelves;
@@ -122,18 +141,22 @@ impl Slots {
         }
     }
 
-    /// The slots of the tuples that are near the pattern, whose first want is fixed to that field, rising.
+    /// The same for a pattern whose first want is fixed to that field.
     fn near_first(&self, first: &Field, wants: &[Want], bound: &[Field]) -> Result<Vec<u64>, Memory>
         requires { fixed_at bound.now wants.now 0 ≡ Some first.now }
-        ensures { IfOk result (λ slots. slots.items ≡ slots_of (near_entries bound.now wants.now self.now)) }
+        ensures { IfOk result (λ slots. AreNear bound.now wants.now self.now slots.items) }
     {
-        if let Some(second) = fixed(wants, 1, bound) {
-            return Ok(self.with_second(first, second)?);
+        let third = fixed(wants, 2, bound);
+        match fixed(wants, 1, bound) {
+            Some(second) => match third {
+                Some(third) => Ok(self.with_fewer(first, second, third)?),
+                None => Ok(self.with_second(first, second)?),
+            },
+            None => match third {
+                Some(third) => Ok(self.with_third(first, third)?),
+                None => Ok(self.with_first(first)?),
+            },
         }
-        if let Some(third) = fixed(wants, 2, bound) {
-            return Ok(self.with_third(first, third)?);
-        }
-        Ok(self.with_first(first)?)
     }
 
     /// A slot whose tuple's life has ended; None exactly where all tuples are live.
