@@ -1,4 +1,4 @@
-ghost use Rattle.std.specs.Prelude.{◌≡◌, ◌<◌, ◌≤◌, not};
+ghost use Rattle.std.specs.Prelude.{◌≡◌, ◌<◌, ◌≤◌};
 ghost use Rattle.std.specs.FinSet as set;
 
 use std::marker::Model;
@@ -42,15 +42,12 @@ impl CloudSet {
         self.marks[cloud as usize]
     }
 
-    /// Whether it was not there before.
-    pub fn insert(&mut self, cloud: u8) -> bool
+    /// Puts the cloud into the set.
+    pub fn insert(&mut self, cloud: u8)
         requires { cloud < 10 }
-        ensures after { self.new ≡ set.insert self.old cloud }
-        ensures answer { result ≡ not (set.contains self.old cloud) }
+        ensures { self.new ≡ set.insert self.old cloud }
     {
-        let was_there = self.marks[cloud as usize];
         self.marks[cloud as usize] = true;
-        !was_there
     }
 
     /// How many clouds are in the set, at most 10.

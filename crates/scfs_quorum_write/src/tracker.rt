@@ -83,7 +83,9 @@ impl PutTracker {
         ensures answer { result ≡ not (set.contains (clouds_of self.old part) cloud) }
         ensures after { self.new ≡ with_ack self.old cloud part }
     {
-        self.parts[part as usize].insert(cloud)
+        let was_missing = self.missing(cloud, part);
+        self.parts[part as usize].insert(cloud);
+        was_missing
     }
 
     /// Whether n-f or more different clouds acknowledged each part.
