@@ -80,7 +80,8 @@ fn measures_of(word: &str) -> &'static [Work]
     ensures none { word.now ≢ codes "digest" → word.now ≢ codes "stream" → word.now ≢ codes "row" → word.now ≢ codes "encode1"
         → word.now ≢ codes "encode3" → word.now ≢ codes "decode1" → word.now ≢ codes "decode3"
         → word.now ≢ codes "steps1000" → word.now ≢ codes "steps100000"
-        → word.now ≢ codes "seal64" → word.now ≢ codes "seal1024" → word.now ≢ codes "open64" → word.now ≢ codes "open1024" → word.now ≢ codes "read64k" → word.now ≢ codes "read1"
+        → word.now ≢ codes "seal64" → word.now ≢ codes "seal1024" → word.now ≢ codes "open64" → word.now ≢ codes "open1024"
+        → word.now ≢ codes "read64k" → word.now ≢ codes "read1"
         → word.now ≢ codes "all" → result.now ≡ [] }
 {
     match word {

@@ -12,6 +12,7 @@ use std::alloc::Global;
 /// What a word says, or why it is not in form.
 pub type Form<T> = Result<T, BadKind>;
 
+/// A number word: decimal digits in their one spelling, below 2^64.
 pub fn number(word: &[u8]) -> Form<u64>
     ensures { result ≡ number word.now }
 {
@@ -56,18 +57,21 @@ pub fn cloud(header: &Header, word: &[u8]) -> Form<u8>
     }
 }
 
+/// The bytes that a path word spells; any bytes have one such word.
 pub fn path(alloc: Global, word: &[u8]) -> Result<Form<Bytes>, Memory>
     ensures { IfOk result (λ form. form ≡ path word.now) }
 {
     Ok(read_path_word(alloc, word)?.ok_or(BadKind::Path))
 }
 
+/// The bytes that a hexadecimal word spells, in lower-case digits; `-` is no bytes.
 pub fn hex(alloc: Global, word: &[u8]) -> Result<Form<Bytes>, Memory>
     ensures { IfOk result (λ form. form ≡ hex word.now) }
 {
     Ok(read_hex(alloc, word)?.ok_or(BadKind::Hex))
 }
 
+/// The mode of an agent by its word.
 pub fn mode(word: &[u8]) -> Form<Mode>
     ensures { result ≡ mode word.now }
 {
@@ -82,6 +86,7 @@ pub fn mode(word: &[u8]) -> Form<Mode>
     }
 }
 
+/// A seed of 32 bytes, as 64 lower-case hexadecimal digits.
 pub fn seed(word: &[u8]) -> Form<[u8; 32]>
     ensures { result ≡ seed word.now }
 {

@@ -76,5 +76,5 @@ fn with_stream(alloc: Global, key: &[u8; 32], bytes: &[u8]) -> Result<Bytes, Mem
 {
     let mut added = Vec::from_slice(alloc, bytes)?;
     xor_stream(key, &mut added);
-    Ok(Bytes::from_slice(alloc, &added)?)
+    Ok(Bytes::from_vec(added))
 }
