@@ -10,7 +10,6 @@ use Rattle.std.proofs.lemmas.Bool.Decides.{nat_tests}
 use Rattle.std.proofs.lemmas.Cmp.{nat_cmp_total}
 use Rattle.std.proofs.lemmas.List.{length_push}
 use Rattle.std.proofs.lemmas.List.Folds.{list_any-append}
-use Rattle.scfs_base.specs.declared.naming.RequestNo.{RequestNo}
 use Rattle.scfs_base.specs.declared.naming.UploadNo.{UploadNo}
 use Rattle.scfs_schedule.specs.declared.types.Event.{Event}
 use Rattle.scfs_schedule.specs.declared.types.Event.TheVariants as events
@@ -19,6 +18,7 @@ use Rattle.scfs_quorum_write.specs.Marks.{Clouds}
 use Rattle.scfs_quorum_write.specs.declared.progress.Progress.TheVariants as progresses
 use Rattle.scfs_model.specs.Lists.{is_in}
 use Rattle.scfs_model.specs.History.{Message, Asked, Answered, History}
+use Rattle.scfs_model.specs.Reads.{Requested}
 use Rattle.scfs_model.specs.Uploads.{acknowledges, with_cloud, with_answer, with_event, puts_of, acked}
 use Rattle.scfs_agent.specs.Acting.{silent, commits, progresses_to}
 use Rattle.scfs_agent.specs.State.{AgentState}
@@ -86,12 +86,12 @@ AreDifferent-if : (b : Bool) (clouds : List ℕ) (c : ℕ) → AreDifferent clou
 AreDifferent-if true clouds c are = len-with (is_in c clouds) clouds c refl are
 AreDifferent-if false clouds c are = are
 
-AreDifferent-message : (puts : List RequestNo) (clouds : List ℕ) (c : ℕ) (message : Option Message) → AreDifferent clouds → AreDifferent (with_answer puts clouds c message)
+AreDifferent-message : (puts : List Requested) (clouds : List ℕ) (c : ℕ) (message : Option Message) → AreDifferent clouds → AreDifferent (with_answer puts clouds c message)
 AreDifferent-message puts clouds c None are = are
 AreDifferent-message puts clouds c (Some (Asked request)) are = are
-AreDifferent-message puts clouds c (Some (Answered request answer)) are = AreDifferent-if (acknowledges puts request answer) clouds c are
+AreDifferent-message puts clouds c (Some (Answered request answer)) are = AreDifferent-if (acknowledges puts c request answer) clouds c are
 
-AreDifferent-event : (puts : List RequestNo) (clouds : List ℕ) (event : Event) (message : Option Message) → AreDifferent clouds
+AreDifferent-event : (puts : List Requested) (clouds : List ℕ) (event : Event) (message : Option Message) → AreDifferent clouds
     → AreDifferent (with_event puts clouds event message)
 AreDifferent-event puts clouds (events.Give c) message are = AreDifferent-message puts clouds c message are
 AreDifferent-event puts clouds other message are = are
@@ -109,13 +109,13 @@ grows-if : (b : Bool) (clouds : List ℕ) (c : ℕ) → length clouds ≤ length
 grows-if true clouds c = grows-with (is_in c clouds) clouds c
 grows-if false clouds c = omega arith
 
-grows-message : (puts : List RequestNo) (clouds : List ℕ) (c : ℕ) (message : Option Message) → length clouds ≤ length (with_answer puts clouds c message)
+grows-message : (puts : List Requested) (clouds : List ℕ) (c : ℕ) (message : Option Message) → length clouds ≤ length (with_answer puts clouds c message)
 grows-message puts clouds c None = omega arith
 grows-message puts clouds c (Some (Asked request)) = omega arith
-grows-message puts clouds c (Some (Answered request answer)) = grows-if (acknowledges puts request answer) clouds c
+grows-message puts clouds c (Some (Answered request answer)) = grows-if (acknowledges puts c request answer) clouds c
 
 -- an event loses no cloud
-pub acked-grows : (puts : List RequestNo) (clouds : List ℕ) (event : Event) (message : Option Message)
+pub acked-grows : (puts : List Requested) (clouds : List ℕ) (event : Event) (message : Option Message)
     → length clouds ≤ length (with_event puts clouds event message)
 acked-grows puts clouds (events.Give c) message = grows-message puts clouds c message
 acked-grows puts clouds other message = omega arith

@@ -6,7 +6,7 @@ use Rattle.std.proofs.lemmas.List.Folds.{list_any-append}
 use Rattle.std.proofs.lemmas.Map.Views.{any-filter_same}
 use Rattle.std.proofs.lemmas.Bool.{eqb-true, or_cases, or_left, or_right, both_ways, true_from_ne_false}
 use Rattle.scfs_quorum_read.specs.Reading.{Reading, Told, Answered, Turned, first_unasked, is_good, good_piece, asked}
-use Rattle.scfs_model.specs.Reads.{Got}
+use Rattle.scfs_model.specs.Reads.{Requested}
 use Rattle.scfs_agent.specs.Standing.{AreAskedOf}
 
 -- ---- tests that agree
@@ -20,17 +20,17 @@ filter-same p q [] e = refl
 filter-same p q (x ∷ xs) e = ap (λ b. cond b (x ∷ filter p xs) (filter p xs)) (e x) ∙ ap (λ r. cond (q x) (x ∷ r) r) (filter-same p q xs e)
 
 -- the next cloud of the order is the same
-pub same_next : (gets : List Got) (clouds order : List ℕ) → AreAskedOf gets clouds
-    → find (λ c. not (list_any (λ (g : Got). g.cloud == c) gets)) order ≡ first_unasked order clouds
+pub same_next : (gets : List Requested) (clouds order : List ℕ) → AreAskedOf gets clouds
+    → find (λ c. not (list_any (λ (g : Requested). g.cloud == c) gets)) order ≡ first_unasked order clouds
 same_next gets clouds order are =
-    find-same (λ c. not (list_any (λ (g : Got). g.cloud == c) gets)) (λ c. not (list_any (λ d. d == c) clouds)) order (λ c. ap not (are c))
+    find-same (λ c. not (list_any (λ (g : Requested). g.cloud == c) gets)) (λ c. not (list_any (λ d. d == c) clouds)) order (λ c. ap not (are c))
 
 -- further Gets of these clouds
-pub AreAskedOf-more : (gets more : List Got) (clouds further : List ℕ) → AreAskedOf gets clouds → AreAskedOf more further
+pub AreAskedOf-more : (gets more : List Requested) (clouds further : List ℕ) → AreAskedOf gets clouds → AreAskedOf more further
     → AreAskedOf (gets ++ more) (clouds ++ further)
 AreAskedOf-more gets more clouds further are also c =
-    list_any-append (λ (g : Got). g.cloud == c) gets more
-    ∙ ap (λ b. b || list_any (λ (g : Got). g.cloud == c) more) (are c)
+    list_any-append (λ (g : Requested). g.cloud == c) gets more
+    ∙ ap (λ b. b || list_any (λ (g : Requested). g.cloud == c) more) (are c)
     ∙ ap (λ b. list_any (λ d. d == c) clouds || b) (also c)
     ∙ sym (list_any-append (λ d. d == c) clouds further)
 
@@ -85,10 +85,10 @@ all_or false test order c within apart =
     any-filter_same (λ d. d == c) test true (λ k h. subst (λ n. test n ≡ true) (sym (eqb-true k c h)) (true_from_ne_false (test c) (λ e. both_ways false refl (apart e)))) order
 
 -- after a turn, which asks the clouds that pass a test, where the others were asked
-pub AreAskedOf-turned : (gets more : List Got) (reading : Reading) (past : List Told) (test : ℕ → Bool) → AreAskedOf gets (asked reading past)
-    → AreAskedOf more (filter test reading.order) → ((c : ℕ) → test c ≡ false → list_any (λ (g : Got). g.cloud == c) gets ≡ true)
+pub AreAskedOf-turned : (gets more : List Requested) (reading : Reading) (past : List Told) (test : ℕ → Bool) → AreAskedOf gets (asked reading past)
+    → AreAskedOf more (filter test reading.order) → ((c : ℕ) → test c ≡ false → list_any (λ (g : Requested). g.cloud == c) gets ≡ true)
     → AreAskedOf (gets ++ more) reading.order
 AreAskedOf-turned gets more reading past test are also apart c =
-    list_any-append (λ (g : Got). g.cloud == c) gets more
-    ∙ ap (λ b. list_any (λ (g : Got). g.cloud == c) gets || b) (also c)
-    ∙ all_or (list_any (λ (g : Got). g.cloud == c) gets) test reading.order c (λ h. IsIn-asked reading past c (sym (are c) ∙ h)) (apart c)
+    list_any-append (λ (g : Requested). g.cloud == c) gets more
+    ∙ ap (λ b. list_any (λ (g : Requested). g.cloud == c) gets || b) (also c)
+    ∙ all_or (list_any (λ (g : Requested). g.cloud == c) gets) test reading.order c (λ h. IsIn-asked reading past c (sym (are c) ∙ h)) (apart c)

@@ -4,7 +4,6 @@ use Rattle.std.specs.List.{list_any}
 use Rattle.std.proofs.Math.Nat.{min-eq_left}
 use Rattle.std.proofs.lemmas.List.{length-map}
 use Rattle.std.proofs.lemmas.List.Elements.{All-cons, All-nil}
-use Rattle.scfs_base.specs.declared.naming.RequestNo.{RequestNo}
 use Rattle.scfs_base.specs.declared.naming.UploadNo.{UploadNo}
 use Rattle.scfs_schedule.specs.declared.types.Event.{Event}
 use Rattle.scfs_schedule.specs.declared.types.Header.{Header}
@@ -17,12 +16,14 @@ use Rattle.scfs_model.specs.UnitFormat.{under}
 use Rattle.scfs_model.specs.History.{Message, Entry, History}
 use Rattle.scfs_model.specs.Ranks.{Counted}
 use Rattle.scfs_model.specs.Agents.{Agent, Ask, Closed, For_close, Put, Reaction, Response, steps_in, reaction_of}
+use Rattle.scfs_model.specs.Reads.{Requested}
 use Rattle.scfs_model.specs.Uploads.{put_in, puts_of, turns_of, acked}
-use Rattle.scfs_agent.specs.Acting.{begins, numbered_from, requests_of}
+use Rattle.scfs_agent.specs.Acting.{begins, numbered_from}
 use Rattle.scfs_agent.specs.Anchored.{closing}
 use Rattle.scfs_agent.specs.Reacting.{entry_of}
 use Rattle.scfs_agent.specs.State.{AgentState}
-use Rattle.scfs_agent.specs.Standing.{state_of, IsShort, IsAgent, HasDrawn, IsWaiting, IsClosing, awaited, acks_of, upload_of}
+use Rattle.scfs_agent.specs.Standing.{asked_as, state_of, IsShort, IsAgent, HasDrawn, IsWaiting, IsClosing, awaited, acks_of, upload_of}
+use Rattle.scfs_agent.specs.declared.work.Asked.{Asked}
 use Rattle.scfs_agent.specs.declared.work.Upload.{Upload}
 use Rattle.scfs_agent.specs.declared.work.Work.{Work}
 use Rattle.scfs_agent.specs.declared.work.Work.TheVariants as works
@@ -42,10 +43,10 @@ pub record Begins (s : Setup) (a incarnation drawn : ℕ) (u : UploadNo) (conten
 
 -- its Puts are those that the agent numbered
 begun_puts : (s : Setup) (a incarnation drawn : ℕ) (u : UploadNo) (contents : List ℕ) (e : Entry) (own : History) → Begins s a incarnation drawn u contents e
-    → puts_of own u ≡ [] → puts_of (e ∷ own) u ≡ requests_of (numbered_from a incarnation drawn (below (clouds_of s)))
+    → puts_of own u ≡ [] → map asked_as (puts_of (e ∷ own) u) ≡ numbered_from a incarnation drawn (below (clouds_of s))
 begun_puts s a incarnation drawn u contents e own h none =
-    ap (λ puts. puts ++ flat_map (put_in (upload_name u)) e.lines) none
-    ∙ ap (flat_map (put_in (upload_name u))) h.lines
+    ap (λ puts. map asked_as (puts ++ flat_map (put_in (upload_name u)) e.lines)) none
+    ∙ ap (λ lines. map asked_as (flat_map (put_in (upload_name u)) lines)) h.lines
     ∙ puts_of_puts s u contents (upload_name u) a incarnation drawn (below (clouds_of s)) (same_name (upload_name u))
 
 -- none has another name
@@ -59,10 +60,15 @@ other_puts s a incarnation drawn j k contents e own h number first less fits non
     ∙ no_puts_of_others s (upload_no a incarnation j) contents name a incarnation drawn (below (clouds_of s)) (other_name a incarnation j k number first less fits)
 
 -- there are clouds, and so a Put
-some_put : (a incarnation drawn f : ℕ) → list_any (λ (request : RequestNo). true) (requests_of (numbered_from a incarnation drawn (below (3 * f + 1)))) ≡ true
+some_put : (a incarnation drawn f : ℕ) → list_any (λ (put : Asked). true) (numbered_from a incarnation drawn (below (3 * f + 1))) ≡ true
 some_put a incarnation drawn f =
     let more : 3 * f + 1 ≡ suc (3 * f) = omega arith in
-    ap (λ n. list_any (λ (request : RequestNo). true) (requests_of (numbered_from a incarnation drawn (below n)))) more
+    ap (λ n. list_any (λ (put : Asked). true) (numbered_from a incarnation drawn (below n))) more
+
+-- there is a Put under either form
+any_asked : (puts : List Requested) → list_any (λ (put : Requested). true) puts ≡ list_any (λ (put : Asked). true) (map asked_as puts)
+any_asked [] = refl
+any_asked (put ∷ puts) = refl
 
 -- an upload that just began
 abbrev new_upload : Setup → (a incarnation drawn : ℕ) → (h : ℕ) → Session → UploadNo → Upload
@@ -73,17 +79,17 @@ new_upload s a incarnation drawn h y u =
       objects = (sealed s u y.contents).objects;
       acks = acks_of s.header.f [];
       turns = 0;
-      puts = requests_of (numbered_from a incarnation drawn (below (clouds_of s)));
+      puts = numbered_from a incarnation drawn (below (clouds_of s));
       commit = None;
     }
 
 upload_begun : (s : Setup) (a incarnation drawn : ℕ) (h : ℕ) (y : Session) (u : UploadNo) (e : Entry) (own : History) → Begins s a incarnation drawn u y.contents e
     → puts_of own u ≡ [] → upload_of s (e ∷ own) h y u None ≡ new_upload s a incarnation drawn h y u
 upload_begun s a incarnation drawn h y u e own begins none =
-    let at : List ℕ → ℕ → List RequestNo → Upload = λ clouds turns puts.
+    let at : List ℕ → ℕ → List Asked → Upload = λ clouds turns puts.
     record (new_upload s a incarnation drawn h y u) { acks = acks_of s.header.f clouds; turns = min 8 turns; puts = puts } in
-    ap (λ clouds. at clouds (turns_of (e ∷ own) u) (puts_of (e ∷ own) u)) (begins.plain.acks (puts_of own u) (acked own u) ∙ nothing_acked own u none)
-    ∙ ap (λ turns. at [] turns (puts_of (e ∷ own) u)) (turns_next e own u begins.plain.turn ∙ nothing_turned own u none)
+    ap (λ clouds. at clouds (turns_of (e ∷ own) u) (map asked_as (puts_of (e ∷ own) u))) (begins.plain.acks (puts_of own u) (acked own u) ∙ nothing_acked own u none)
+    ∙ ap (λ turns. at [] turns (map asked_as (puts_of (e ∷ own) u))) (turns_next e own u begins.plain.turn ∙ nothing_turned own u none)
     ∙ ap (λ puts. at [] 0 puts) (begun_puts s a incarnation drawn u y.contents e own begins none)
 
 -- what an agent at rest does where an upload of a closed session begins
@@ -131,7 +137,7 @@ agrees_begun header a i m counted own event ranks h y plain valid drawn few room
           let work : Option Ask → Work = λ commit. works.Upload (upload_of s (e ∷ own) h y u commit) in
           let sent : IsClosing (e ∷ own) u a m.incarnation (m.uploads + 1) = record {
             drawn = refl;
-            begun = ap (list_any (λ (request : RequestNo). true)) (begun_puts s a m.incarnation m.requests u y.contents e own begins fresh)
+            begun = any_asked (puts_of (e ∷ own) u) ∙ ap (list_any (λ (put : Asked). true)) (begun_puts s a m.incarnation m.requests u y.contents e own begins fresh)
                 ∙ some_put a m.incarnation m.requests header.f;
           } in
           record {

@@ -10,7 +10,6 @@ use Rattle.scfs_schedule.specs.declared.types.Refusal.TheVariants as refusals
 use Rattle.scfs_session.specs.declared.sessions.Session.{Session}
 use Rattle.scfs_agent.specs.State.{AgentState}
 use Rattle.std.proofs.lemmas.Result.{IfOk-weaker}
-use Rattle.scfs_base.specs.declared.naming.RequestNo.{RequestNo}
 use Rattle.scfs_anchor.specs.declared.seen.VersionRow.{VersionRow}
 use Rattle.scfs_quorum_write.specs.Acks.{Acks, no_acks}
 use Rattle.scfs_unit.specs.Unit as unit
@@ -20,6 +19,7 @@ use Rattle.scfs_model.specs.Names.{upload_no}
 use Rattle.scfs_model.specs.UnitFormat.{draw_for}
 use Rattle.scfs_agent.specs.Acting.{DoesAs, refuses, saying, closes, begins, asks_puts, row_from}
 use Rattle.scfs_agent.specs.declared.types.Output.{Output}
+use Rattle.scfs_agent.specs.declared.work.Asked.{Asked}
 use Rattle.scfs_agent.proofs.CodeOutputs.{if_does, does_same}
 use Rattle.scfs_session.specs.Open.{OpenSessions, session_of, ended}
 
@@ -74,7 +74,7 @@ if_closed_writing r old view new h y s same after some writes does =
 
 -- an upload begins
 pub if_begun : {E : Type 0} (r : Result (List Output) E) (old view new : AgentState) (h : ℕ) (y : Session) (it : Sealed) (row : VersionRow) (acks : Acks)
-    (puts : List RequestNo) (clouds : List ℕ) → view ≡ old
+    (puts : List Asked) (clouds : List ℕ) → view ≡ old
     → it ≡ unit.sealed old.f (draw_for old.f old.seed (upload_no old.no old.incarnation (old.uploads + 1))) y.contents
     → row ≡ row_from y (old.uploads + 1) old it → acks ≡ no_acks old.f 1 → puts ≡ [] → clouds ≡ below (3 * old.f + 1)
     → IfOk r (λ given. DoesAs new given (asks_puts (record view { uploads = view.uploads + 1 })
@@ -85,7 +85,7 @@ if_begun r old view new h y it row acks puts clouds same sealed rowed none no_pu
     (λ given k sessions after. does_same new given _ _
     (ap (λ (v : AgentState). asks_puts (record v { uploads = v.uploads + 1 }) (record { session = h; row = row; objects = it.objects; acks = acks; turns = 0; puts = puts; commit = None }) clouds) same
     ∙ ap (λ (cs : List ℕ). asks_puts (record old { uploads = old.uploads + 1 }) (record { session = h; row = row; objects = it.objects; acks = acks; turns = 0; puts = puts; commit = None }) cs) all
-    ∙ ap (λ (ps : List RequestNo). asks_puts (record old { uploads = old.uploads + 1 }) (record { session = h; row = row; objects = it.objects; acks = acks; turns = 0; puts = ps; commit = None }) (below (3 * old.f + 1))) no_puts
+    ∙ ap (λ (ps : List Asked). asks_puts (record old { uploads = old.uploads + 1 }) (record { session = h; row = row; objects = it.objects; acks = acks; turns = 0; puts = ps; commit = None }) (below (3 * old.f + 1))) no_puts
     ∙ ap (λ (x : Acks). asks_puts (record old { uploads = old.uploads + 1 }) (record { session = h; row = row; objects = it.objects; acks = x; turns = 0; puts = []; commit = None }) (below (3 * old.f + 1))) none
     ∙ ap (λ (x : VersionRow). asks_puts (record old { uploads = old.uploads + 1 }) (record { session = h; row = x; objects = it.objects; acks = no_acks old.f 1; turns = 0; puts = []; commit = None }) (below (3 * old.f + 1))) rowed
     ∙ ap (λ (x : Sealed). asks_puts (record old { uploads = old.uploads + 1 }) (record { session = h; row = row_from y (old.uploads + 1) old x; objects = x.objects; acks = no_acks old.f 1; turns = 0; puts = []; commit = None }) (below (3 * old.f + 1))) sealed

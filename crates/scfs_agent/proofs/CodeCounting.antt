@@ -31,9 +31,8 @@ use Rattle.scfs_quorum_read.specs.declared.steps.TurnStep.{TurnStep}
 use Rattle.scfs_quorum_read.specs.declared.steps.TurnStep.TheVariants as turn_steps
 use Rattle.scfs_base.specs.declared.naming.FileId.{FileId}
 use Rattle.scfs_model.specs.Names.{same_request}
-use Rattle.scfs_model.specs.Uploads.{acknowledges}
 use Rattle.scfs_agent.specs.State.{AgentState}
-use Rattle.scfs_agent.specs.Acting.{Done, named, creates, asks_stat, opens, unless_refused, changes, closes, saying, called, if_idle, told_at, told_call, told_done, told_upload, told_commit, sights, idle, heard_at, reads, counted, progresses_to, turned_at, fetch_turns, unlocks_if, is_answer_to, tracker_at, first_says}
+use Rattle.scfs_agent.specs.Acting.{Done, named, creates, asks_stat, opens, unless_refused, changes, closes, saying, called, if_idle, told_at, told_call, told_done, told_upload, told_commit, sights, idle, heard_at, reads, counted, progresses_to, turned_at, fetch_turns, unlocks_if, is_answer_to, acknowledges, tracker_at, first_says}
 use Rattle.scfs_agent.specs.Acts.{counting, Acts}
 use Rattle.scfs_agent.specs.Keeping.{counted_input, Does}
 use Rattle.scfs_agent.specs.declared.types.Input.{Input}
@@ -164,7 +163,7 @@ heard_counts a past c request answer (works.Fetch fetch) =
     if_counts (is_answer_to fetch.gets c request && not (is_among c (good_pieces reading past))) _ _ _ _
     (reads_count a fetch c (is_none (good_piece reading c answer)) (tracker_at reading (Answered c answer ∷ past)) (read_step reading past c answer)) refl
 heard_counts a past c request answer (works.Upload upload) =
-    if_counts (acknowledges upload.puts request answer) _ _ _ _
+    if_counts (acknowledges upload.puts c request answer) _ _ _ _
     (progress_counts a (record upload { acks = with_ack upload.acks c 0 }) (progress upload.acks c 0)) refl
 
 unlock_counts : (a : AgentState) (writes : Bool) (id : FileId) (h : ℕ) → unlocks_if writes (counted_input a) id h ≡ counting (unlocks_if writes a id h)

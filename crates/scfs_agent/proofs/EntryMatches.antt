@@ -11,7 +11,7 @@ use Rattle.scfs_model.specs.Format.{Setup}
 use Rattle.scfs_model.specs.History.{Message, Entry, History}
 use Rattle.scfs_model.specs.Agents.{Sent, Opening}
 use Rattle.scfs_model.specs.Requests.{request_lines}
-use Rattle.scfs_model.specs.Reads.{is_saw, saw_in, Got, get_in, gets_since, order_since}
+use Rattle.scfs_model.specs.Reads.{is_saw, saw_in, Requested, get_in, gets_since, order_since}
 use Rattle.scfs_model.specs.Uploads.{put_in}
 use Rattle.scfs_agent.specs.Anchored.{row_of}
 use Rattle.scfs_agent.specs.Acting.{reading_of, tracker_at}
@@ -56,12 +56,12 @@ pub told_since-on : (e : Entry) (own : History) → saw_in e ≡ false
     → told_since (e ∷ own) ≡ told_in (gets_since own) e.event e.message ++ told_since own
 told_since-on e own quiet = ap (λ b. cond b [] (told_in (gets_since own) e.event e.message ++ told_since own)) quiet
 
-pub gets_since-on : (e : Entry) (own : History) (more : List Got) → saw_in e ≡ false → flat_map get_in e.lines ≡ more → gets_since (e ∷ own) ≡ gets_since own ++ more
+pub gets_since-on : (e : Entry) (own : History) (more : List Requested) → saw_in e ≡ false → flat_map get_in e.lines ≡ more → gets_since (e ∷ own) ≡ gets_since own ++ more
 gets_since-on e own more quiet is =
     ap (λ b. cond b [] (gets_since own) ++ flat_map get_in e.lines) quiet ∙ ap (λ gets. gets_since own ++ gets) is
 
 -- an open by its parts
-abbrev pub fetch_by : Setup → Opening → (order : List ℕ) → List Got → List Told → Fetch
+abbrev pub fetch_by : Setup → Opening → (order : List ℕ) → List Requested → List Told → Fetch
 fetch_by s o order gets told =
     let row = row_of s o.version in
     record {
@@ -74,7 +74,7 @@ fetch_by s o order gets told =
     }
 
 -- an open, one event later
-pub fetch_of-on : (s : Setup) (e : Entry) (own : History) (o : Opening) (more : List Got) → saw_in e ≡ false → flat_map get_in e.lines ≡ more
+pub fetch_of-on : (s : Setup) (e : Entry) (own : History) (o : Opening) (more : List Requested) → saw_in e ≡ false → flat_map get_in e.lines ≡ more
     → fetch_of s (e ∷ own) o ≡ fetch_by s o (order_since own) (gets_since own ++ more) (told_in (gets_since own) e.event e.message ++ told_since own)
 fetch_of-on s e own o more quiet is =
     ap (λ order. fetch_by s o order (gets_since (e ∷ own)) (told_since (e ∷ own))) (order_next e own quiet)

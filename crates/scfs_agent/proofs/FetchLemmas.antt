@@ -7,7 +7,7 @@ use Rattle.scfs_unit.specs.declared.pieces.KeptPiece.{KeptPiece}
 use Rattle.scfs_quorum_read.specs.Reading.{Reading, Told, Answered, good_piece, is_among, is_good, with_first, good_pieces, first_unasked, asked, asking}
 use Rattle.scfs_quorum_read.specs.Tracking.{Tracker}
 use Rattle.scfs_model.specs.Names.{same_request}
-use Rattle.scfs_model.specs.Reads.{Got}
+use Rattle.scfs_model.specs.Reads.{Requested}
 use Rattle.scfs_model.specs.Reads as model
 use Rattle.scfs_agent.specs.Acting.{silent, asks_gets, reads, is_answer_to, tracker_at}
 use Rattle.scfs_agent.specs.State.{AgentState}
@@ -17,7 +17,7 @@ use Rattle.scfs_agent.specs.declared.work.Fetch.{Fetch}
 use Rattle.scfs_agent.specs.declared.work.Work.TheVariants as works
 
 -- an answer to Gets
-pub same_answer : (gets : List Got) (c : ℕ) (request : RequestNo) → is_answer_to (map asked_as gets) c request ≡ model.is_answer_to gets c request
+pub same_answer : (gets : List Requested) (c : ℕ) (request : RequestNo) → is_answer_to (map asked_as gets) c request ≡ model.is_answer_to gets c request
 same_answer [] c request = refl
 same_answer (g ∷ gets) c request = ap (λ b. ((g.cloud == c) && same_request g.request request) || b) (same_answer gets c request)
 
@@ -36,9 +36,9 @@ reads-asking agent fetch after None = sym (asks_gets-none agent fetch after)
 reads-asking agent fetch after (Some d) = refl
 
 -- the same Gets and the same clouds
-pub AreAskedOf-same : (gets : List Got) (clouds other : List ℕ) → AreAskedOf gets clouds → other ≡ clouds → AreAskedOf (gets ++ []) other
+pub AreAskedOf-same : (gets : List Requested) (clouds other : List ℕ) → AreAskedOf gets clouds → other ≡ clouds → AreAskedOf (gets ++ []) other
 AreAskedOf-same gets clouds other are same =
-    subst (λ (gets : List Got). AreAskedOf gets other) (sym (append-nil gets)) (subst (λ (clouds : List ℕ). AreAskedOf gets clouds) (sym same) are)
+    subst (λ (gets : List Requested). AreAskedOf gets other) (sym (append-nil gets)) (subst (λ (clouds : List ℕ). AreAskedOf gets clouds) (sym same) are)
 
 with_first-among : (c : ℕ) (p : Option KeptPiece) (pieces : List KeptPiece) → is_among c pieces ≡ true → with_first c p pieces ≡ pieces
 with_first-among c None pieces among = refl

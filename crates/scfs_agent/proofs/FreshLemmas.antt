@@ -2,14 +2,13 @@
 use Rattle.std.proofs.Common.{◌≡◌, ℕ, ◌+◌, ◌<◌, ◌^◌, List, [], ◌∷◌, ◌++◌, Bool, true, false, cond, ◌&&◌, refl, ap, ◌∙◌, Option, Some, None, arith, flat_map, bytes_eq}
 use Rattle.std.specs.List.{list_any}
 use Rattle.std.proofs.lemmas.Slice.Eq.{bytes_eq-Decides}
-use Rattle.scfs_base.specs.declared.naming.RequestNo.{RequestNo}
 use Rattle.scfs_base.specs.declared.naming.UploadNo.{UploadNo}
 use Rattle.scfs_base.proofs.NameLemmas.{names_differ}
 use Rattle.scfs_schedule.specs.declared.types.Event.{Event}
 use Rattle.scfs_schedule.specs.declared.types.Event.TheVariants as events
 use Rattle.scfs_model.specs.Names.{upload_no, upload_name}
 use Rattle.scfs_model.specs.History.{Message, Asked, Answered, History}
-use Rattle.scfs_model.specs.Reads.{is_turn}
+use Rattle.scfs_model.specs.Reads.{Requested, is_turn}
 use Rattle.scfs_model.specs.Uploads.{put_in, puts_of, turns_of, is_ack, acked, with_answer, with_event}
 use Rattle.scfs_agent.proofs.OwnLemmas.{and_false}
 
@@ -38,7 +37,7 @@ pub nothing_turned : (own : History) (u : UploadNo) → puts_of own u ≡ [] →
 nothing_turned [] u none = refl
 nothing_turned (e ∷ own) u none =
     let before = nil_left (puts_of own u) (flat_map (put_in (upload_name u)) e.lines) none in
-    ap (λ puts. cond (list_any (λ (request : RequestNo). true) puts && is_turn e.event) (turns_of own u + 1) (turns_of own u)) before
+    ap (λ puts. cond (list_any (λ (put : Requested). true) puts && is_turn e.event) (turns_of own u + 1) (turns_of own u)) before
     ∙ nothing_turned own u before
 
 -- a name is its own

@@ -18,49 +18,26 @@ use Rattle.scfs_model.specs.Names.{same_request}
 use Rattle.scfs_model.specs.UnitFormat.{under, accepted}
 use Rattle.scfs_model.specs.History.{Message, Asked, Answered, History}
 use Rattle.scfs_model.specs.Tree.{Version}
-use Rattle.scfs_model.specs.Reads.{Got, get_in, if_size, piece_in, root_of, is_answer_to, is_among, counts, saw_in, gets_since, with_answer, with_event, good_pieces}
+use Rattle.scfs_model.proofs.PieceLemmas.{IfOf, piece_of_cloud}
+use Rattle.scfs_model.specs.Reads.{Requested, get_in, if_size, piece_in, root_of, is_answer_to, is_among, counts, saw_in, gets_since, with_answer, with_event, good_pieces}
 
 -- a cloud among those of Gets
-abbrev pub was_asked : List Got → (c : ℕ) → Bool
-was_asked gets c = list_any (λ (g : Got). g.cloud == c) gets
+abbrev pub was_asked : List Requested → (c : ℕ) → Bool
+was_asked gets c = list_any (λ (g : Requested). g.cloud == c) gets
 
 -- an answer to a Get comes of a cloud that was asked
-answer_asked : (gets : List Got) (c : ℕ) (request : RequestNo) → is_answer_to gets c request ≡ true → was_asked gets c ≡ true
+answer_asked : (gets : List Requested) (c : ℕ) (request : RequestNo) → is_answer_to gets c request ≡ true → was_asked gets c ≡ true
 answer_asked [] c request h = h
 answer_asked (g ∷ gets) c request h =
     ⊎_elim (λ e. or_left (g.cloud == c) (was_asked gets c) (and_parts (g.cloud == c) (same_request g.request request) e).0)
     (λ e. or_right (g.cloud == c) (was_asked gets c) (answer_asked gets c request e))
     (or_cases ((g.cloud == c) && same_request g.request request) (is_answer_to gets c request) h)
 
--- a piece, if there is one, is of a cloud
-abbrev IfOf : (c : ℕ) → Option KeptPiece → Type 0
-IfOf c None = Unit {0}
-IfOf c (Some piece) = piece.cloud ≡ c
-
-of_cloud_if : (c : ℕ) (b : Bool) (piece : KeptPiece) → piece.cloud ≡ c → IfOf c (cond b (Some piece) None)
-of_cloud_if c true piece e = e
-of_cloud_if c false piece e = tt
-
-of_cloud : (c size : ℕ) (r : Result KeptPiece BadPiece) → ((piece : KeptPiece) → r ≡ Ok piece → piece.cloud ≡ c) → IfOf c (if_size size (accepted r))
-of_cloud c size (Ok piece) is = of_cloud_if c (piece.length == size) piece (is piece refl)
-of_cloud c size (Err why) is = tt
-
--- a piece that is accepted for a cloud is of it
-piece_of_cloud : (header : Header) (v : Version) (c : ℕ) (answer : CloudAnswer) → IfOf c (piece_in (under header) v c answer)
-piece_of_cloud header v c answers.Ack = tt
-piece_of_cloud header v c answers.Absent = tt
-piece_of_cloud header v c (answers.Bytes bytes) =
-    let root = root_of (under header) v in
-    of_cloud c (length v.bytes) (checked header.f c root bytes)
-    (λ piece e. ap (λ (piece : KeptPiece). piece.cloud) (checked-passed header.f c root bytes piece e).is)
-piece_of_cloud header v c (answers.Names names) = tt
-piece_of_cloud header v c answers.Fail = tt
-
 -- clouds of good pieces were asked
-abbrev WereAsked : List KeptPiece → List Got → Type 0
+abbrev WereAsked : List KeptPiece → List Requested → Type 0
 WereAsked pieces gets = (c : ℕ) → is_among c pieces ≡ true → was_asked gets c ≡ true
 
-with_piece : (gets : List Got) (pieces : List KeptPiece) (d : ℕ) (p : Option KeptPiece) → WereAsked pieces gets → was_asked gets d ≡ true → IfOf d p
+with_piece : (gets : List Requested) (pieces : List KeptPiece) (d : ℕ) (p : Option KeptPiece) → WereAsked pieces gets → was_asked gets d ≡ true → IfOf d p
     → WereAsked (pieces ++ option_to_list p) gets
 with_piece gets pieces d None were asked of c h = were c (subst (λ (l : List KeptPiece). is_among c l ≡ true) (append-nil pieces) h)
 with_piece gets pieces d (Some piece) were asked of c h =
@@ -69,12 +46,12 @@ with_piece gets pieces d (Some piece) were asked of c h =
     subst (λ (n : ℕ). was_asked gets n ≡ true) (sym of ∙ same) asked)
     (or_cases (is_among c pieces) ((piece.cloud == c) || false) (sym (list_any-append (λ (p : KeptPiece). p.cloud == c) pieces (piece ∷ [])) ∙ h))
 
-counted_piece : (gets : List Got) (pieces : List KeptPiece) (d : ℕ) (p : Option KeptPiece) (b : Bool) → (b ≡ true → was_asked gets d ≡ true)
+counted_piece : (gets : List Requested) (pieces : List KeptPiece) (d : ℕ) (p : Option KeptPiece) (b : Bool) → (b ≡ true → was_asked gets d ≡ true)
     → WereAsked pieces gets → IfOf d p → WereAsked (cond b (pieces ++ option_to_list p) pieces) gets
 counted_piece gets pieces d p true asked were of = with_piece gets pieces d p were (asked refl) of
 counted_piece gets pieces d p false asked were of = were
 
-were_message : (header : Header) (v : Version) (gets : List Got) (pieces : List KeptPiece) (d : ℕ) (message : Option Message) → WereAsked pieces gets
+were_message : (header : Header) (v : Version) (gets : List Requested) (pieces : List KeptPiece) (d : ℕ) (message : Option Message) → WereAsked pieces gets
     → WereAsked (with_answer (under header) v gets pieces d message) gets
 were_message header v gets pieces d None were = were
 were_message header v gets pieces d (Some (Asked request)) were = were
@@ -82,16 +59,16 @@ were_message header v gets pieces d (Some (Answered request answer)) were =
     counted_piece gets pieces d (piece_in (under header) v d answer) (counts gets pieces d request)
     (λ h. answer_asked gets d request (and_parts (is_answer_to gets d request) (not (is_among d pieces)) h).0) were (piece_of_cloud header v d answer)
 
-were_event : (header : Header) (v : Version) (gets : List Got) (pieces : List KeptPiece) (event : Event) (message : Option Message) → WereAsked pieces gets
+were_event : (header : Header) (v : Version) (gets : List Requested) (pieces : List KeptPiece) (event : Event) (message : Option Message) → WereAsked pieces gets
     → WereAsked (with_event (under header) v gets pieces event message) gets
 were_event header v gets pieces (events.Give c) message were = were_message header v gets pieces c message were
 were_event header v gets pieces other message were = were
 
-more_asked : (gets more : List Got) (c : ℕ) → was_asked gets c ≡ true → was_asked (gets ++ more) c ≡ true
+more_asked : (gets more : List Requested) (c : ℕ) → was_asked gets c ≡ true → was_asked (gets ++ more) c ≡ true
 more_asked gets more c h =
-    list_any-append (λ (g : Got). g.cloud == c) gets more ∙ or_left (was_asked gets c) (was_asked more c) h
+    list_any-append (λ (g : Requested). g.cloud == c) gets more ∙ or_left (was_asked gets c) (was_asked more c) h
 
-were_step : (saw : Bool) (gets more : List Got) (pieces : List KeptPiece) → WereAsked pieces gets → WereAsked (cond saw [] pieces) (cond saw [] gets ++ more)
+were_step : (saw : Bool) (gets more : List Requested) (pieces : List KeptPiece) → WereAsked pieces gets → WereAsked (cond saw [] pieces) (cond saw [] gets ++ more)
 were_step true gets more pieces were c h = absurd (both_ways false refl h)
 were_step false gets more pieces were c h = more_asked gets more c (were c h)
 

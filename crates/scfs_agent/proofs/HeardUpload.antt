@@ -16,14 +16,15 @@ use Rattle.scfs_model.specs.Ranks.{Counted}
 use Rattle.scfs_model.specs.Agents.{Agent, Ask, reaction_of}
 use Rattle.scfs_model.specs.Agents as agents
 use Rattle.scfs_model.specs.Reactions.{put_upload}
-use Rattle.scfs_model.specs.Uploads.{acknowledges, with_cloud, puts_of, acked, Uploading, Stays, Commits, ack_heard}
-use Rattle.scfs_agent.specs.Acting.{Done, silent, commits, heard_upload}
+use Rattle.scfs_model.specs.Uploads.{is_ack, acknowledges, with_cloud, puts_of, acked, Uploading, Stays, Commits, ack_heard}
+use Rattle.scfs_agent.specs.Acting.{Done, silent, commits, progresses_to, heard_upload}
 use Rattle.scfs_agent.specs.Standing.{awaited, acks_of, upload_of, state_of, IsAgent, HasDrawn}
 use Rattle.scfs_agent.specs.declared.work.Upload.{Upload}
 use Rattle.scfs_agent.specs.declared.work.Work.TheVariants as works
-use Rattle.scfs_quorum_write.specs.Acks.{Acks, with_ack}
+use Rattle.scfs_quorum_write.specs.Acks.{Acks, with_ack, progress}
 use Rattle.scfs_agent.proofs.AckMatches.{AreDifferent-acked, with_ack-acked, completes, progresses_to-acked}
 use Rattle.scfs_agent.proofs.EntryMatches.{ArePlain}
+use Rattle.scfs_agent.proofs.FetchLemmas.{same_answer}
 use Rattle.scfs_agent.proofs.HeardFetch.{HearDoes, gave_line}
 use Rattle.scfs_agent.proofs.UploadAnswers.{asks_puts-none, commit_none, completes_is}
 use Rattle.scfs_agent.proofs.UploadEnds.{upload_commits}
@@ -109,7 +110,7 @@ heard_close header a n base counts own h y u c request answer ranks is =
     let start = state_of s a n (closer base h y u) counts own in
     let upload = upload_of s own h y u (awaited base.pending) in
     let clouds = acked own u in
-    let acks = acknowledges (puts_of own u) request answer in
+    let acks = acknowledges (puts_of own u) c request answer in
     let full = completes (enough s) clouds c in
     let more : Acks → Upload = λ x. record upload { acks = x } in
     let verdict : cond (acks && full) Commits Stays ≡ ack_heard s own c request answer u =
@@ -118,7 +119,9 @@ heard_close header a n base counts own h y u c request answer ranks is =
     ≡ heard_upload start upload c request answer =
     ap (λ (x : Acks). cond acks (cond full (commits start (more x)) (silent (record start { work = works.Upload (more x) }))) (silent start)) (sym (with_ack-acked header.f clouds c))
     ∙ ap (λ (d : Done). cond acks d (silent start))
-    (sym (progresses_to-acked start (more (with_ack (acks_of header.f clouds) c 0)) header.f clouds c (AreDifferent-acked own u))) in
+    (sym (progresses_to-acked start (more (with_ack (acks_of header.f clouds) c 0)) header.f clouds c (AreDifferent-acked own u)))
+    ∙ ap (λ (b : Bool). cond b (progresses_to start (more (with_ack (acks_of header.f clouds) c 0)) (progress (acks_of header.f clouds) c 0)) (silent start))
+    (ap (λ (b : Bool). is_ack answer && b) (sym (same_answer (puts_of own u) c request))) in
     subst (λ (v : Uploading). HearDoes header own c request answer ranks counts (reaction_of a (put_upload a (closer base h y u) h y u v)) (heard_upload start upload c request answer)) verdict
     (subst (HearDoes header own c request answer ranks counts (reaction_of a (put_upload a (closer base h y u) h y u (cond (acks && full) Commits Stays)))) done
     (hear_by header a n base counts own h y u c request answer ranks acks full is refl refl))

@@ -12,9 +12,9 @@ use Rattle.scfs_model.specs.Format.{Setup}
 use Rattle.scfs_model.specs.Tree.{Version}
 use Rattle.scfs_model.specs.Agents.{Request, Act, Put, Get, Sent, numbered}
 use Rattle.scfs_model.specs.Requests.{asked_of, request_line, request_lines}
-use Rattle.scfs_model.specs.Reads.{is_saw, get_in, Got}
+use Rattle.scfs_model.specs.Reads.{is_saw, get_in, Requested}
 use Rattle.scfs_model.specs.Uploads.{put_in}
-use Rattle.scfs_agent.specs.Acting.{numbered_from, requests_of}
+use Rattle.scfs_agent.specs.Acting.{numbered_from}
 use Rattle.scfs_agent.specs.Standing.{asked_as}
 use Rattle.scfs_agent.specs.declared.work.Asked.{Asked}
 
@@ -47,7 +47,7 @@ gets_of_gets s v a incarnation drawn (c ∷ cs) =
 
 -- their clouds are these clouds
 pub clouds_of_gets : (s : Setup) (v : Version) (a incarnation drawn : ℕ) (clouds : List ℕ) (d : ℕ)
-    → list_any (λ (g : Got). g.cloud == d) (flat_map get_in (get_lines s a incarnation drawn v clouds)) ≡ list_any (λ c. c == d) clouds
+    → list_any (λ (g : Requested). g.cloud == d) (flat_map get_in (get_lines s a incarnation drawn v clouds)) ≡ list_any (λ c. c == d) clouds
 clouds_of_gets s v a incarnation drawn [] d = refl
 clouds_of_gets s v a incarnation drawn (c ∷ cs) d = ap (λ b. (c == d) || b) (clouds_of_gets s v a incarnation (drawn + 1) cs d)
 
@@ -70,17 +70,19 @@ no_gets_of_puts s u contents a incarnation drawn (c ∷ cs) = no_gets_of_puts s 
 -- they are the Puts of the upload's name that an agent numbers
 pub puts_of_puts : (s : Setup) (u : UploadNo) (contents : List ℕ) (name : List ℕ) (a incarnation drawn : ℕ) (clouds : List ℕ)
     → bytes_eq (upload_name u) name ≡ true
-    → flat_map (put_in name) (put_lines s a incarnation drawn u contents clouds) ≡ requests_of (numbered_from a incarnation drawn clouds)
+    → map asked_as (flat_map (put_in name) (put_lines s a incarnation drawn u contents clouds)) ≡ numbered_from a incarnation drawn clouds
 puts_of_puts s u contents name a incarnation drawn [] same = refl
 puts_of_puts s u contents name a incarnation drawn (c ∷ cs) same =
     let rest = flat_map (put_in name) (put_lines s a incarnation (drawn + 1) u contents cs) in
-    ap (λ b. cond b (request_no a incarnation (drawn + 1) ∷ []) [] ++ rest) same
-    ∙ ap (λ (l : List RequestNo). request_no a incarnation (drawn + 1) ∷ l) (puts_of_puts s u contents name a incarnation (drawn + 1) cs same)
+    let put : Requested = record { request = request_no a incarnation (drawn + 1); cloud = c } in
+    ap (λ b. map asked_as (cond b (put ∷ []) [] ++ rest)) same
+    ∙ ap (λ (l : List Asked). asked_as put ∷ l) (puts_of_puts s u contents name a incarnation (drawn + 1) cs same)
 
 -- under another name none stands among them
 pub no_puts_of_others : (s : Setup) (u : UploadNo) (contents : List ℕ) (name : List ℕ) (a incarnation drawn : ℕ) (clouds : List ℕ)
     → bytes_eq (upload_name u) name ≡ false → flat_map (put_in name) (put_lines s a incarnation drawn u contents clouds) ≡ []
 no_puts_of_others s u contents name a incarnation drawn [] other = refl
 no_puts_of_others s u contents name a incarnation drawn (c ∷ cs) other =
-    ap (λ b. cond b (request_no a incarnation (drawn + 1) ∷ []) [] ++ flat_map (put_in name) (put_lines s a incarnation (drawn + 1) u contents cs)) other
+    let put : Requested = record { request = request_no a incarnation (drawn + 1); cloud = c } in
+    ap (λ b. cond b (put ∷ []) [] ++ flat_map (put_in name) (put_lines s a incarnation (drawn + 1) u contents cs)) other
     ∙ no_puts_of_others s u contents name a incarnation (drawn + 1) cs other

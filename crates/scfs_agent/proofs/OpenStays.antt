@@ -13,7 +13,7 @@ use Rattle.scfs_model.specs.Tree.{Version}
 use Rattle.scfs_model.specs.Ranks.{Counted}
 use Rattle.scfs_agent.specs.Acts.{counting}
 use Rattle.scfs_model.specs.Agents.{Agent, Opening, For_clouds, Ask, Request, Get, numbered, steps_in, asking, Reaction, reaction_of}
-use Rattle.scfs_model.specs.Reads.{Got, get_in, saw_in, gets_since, order_since}
+use Rattle.scfs_model.specs.Reads.{Requested, get_in, saw_in, gets_since, order_since}
 use Rattle.scfs_agent.specs.Anchored.{row_of}
 use Rattle.scfs_agent.specs.Acting.{Done, reading_of, tracker_at, numbered_from, asks_gets}
 use Rattle.scfs_agent.specs.Reacting.{entry_of}
@@ -46,7 +46,7 @@ abbrev pub more_gets : (a : ℕ) → Agent → (clouds : List ℕ) → List Aske
 more_gets a base clouds = numbered_from a base.incarnation base.requests clouds
 
 -- as they stand in the lines
-abbrev pub gots : Header → (a : ℕ) → Agent → Opening → (clouds : List ℕ) → List Got
+abbrev pub gots : Header → (a : ℕ) → Agent → Opening → (clouds : List ℕ) → List Requested
 gots header a base o clouds = flat_map get_in (get_lines (under header) a base.incarnation base.requests o.version clouds)
 
 -- the reaction that asks them
@@ -121,7 +121,7 @@ opening_later header a base own o event message ranks before clouds plain is are
       number = is.number;
       bytes = is.bytes;
       asked =
-          subst (λ (gets : List Got). AreAskedOf gets (asked (reading_for header o (order_since (e ∷ own))) (told_since (e ∷ own))))
+          subst (λ (gets : List Requested). AreAskedOf gets (asked (reading_for header o (order_since (e ∷ own))) (told_since (e ∷ own))))
           (sym (gets_since-on e own (gots header a base o clouds) quiet (got_entry header a base o before clouds plain)))
           (subst (λ (order : List ℕ). AreAskedOf more (asked (reading_for header o order) (told_since (e ∷ own)))) (sym (order_next e own quiet))
           (subst (λ (past : List Told). AreAskedOf more (asked (reading_for header o (order_since own)) past)) (sym (told_since-on e own quiet)) are));

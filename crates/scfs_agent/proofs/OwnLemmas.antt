@@ -1,7 +1,6 @@
 -- What a further entry of an agent leaves of what its part of the history says of its open and of its upload.
 use Rattle.std.proofs.Common.{◌≡◌, ℕ, ◌≤◌, length, ◌+◌, List, [], ◌∷◌, ◌++◌, map, min, Bool, true, false, cond, ◌&&◌, refl, ap, sym, ◌∙◌, subst, Option, Some, None, append-nil, flat_map, find}
 use Rattle.std.specs.List.{list_any}
-use Rattle.scfs_base.specs.declared.naming.RequestNo.{RequestNo}
 use Rattle.scfs_base.specs.declared.naming.UploadNo.{UploadNo}
 use Rattle.scfs_schedule.specs.declared.types.Call.{Call}
 use Rattle.scfs_schedule.specs.declared.types.Event.{Event}
@@ -14,7 +13,7 @@ use Rattle.scfs_model.specs.Format.{Setup, enough}
 use Rattle.scfs_model.specs.History.{Message, Entry, History}
 use Rattle.scfs_model.specs.Agents.{Opening, Waiting, For_step, For_clouds, For_close, Closed, Ask}
 use Rattle.scfs_model.specs.Ranks.{order_by}
-use Rattle.scfs_model.specs.Reads.{Got, get_in, saw_in, is_turn, gets_since, order_since}
+use Rattle.scfs_model.specs.Reads.{Requested, get_in, saw_in, is_turn, gets_since, order_since}
 use Rattle.scfs_model.specs.Uploads.{put_in, puts_of, has_begun, turns_of, acked, with_event}
 use Rattle.scfs_agent.specs.Acting.{reading_of, tracker_at}
 use Rattle.scfs_agent.specs.Anchored.{row_of}
@@ -25,9 +24,9 @@ use Rattle.scfs_agent.specs.declared.work.Work.TheVariants as works
 
 -- an event that tells nothing to opens and uploads: it is neither a turn nor an answer of a cloud
 pub record IsPlain (event : Event) (message : Option Message) : Type 0 where
-  pub told : (gets : List Got) → told_in gets event message ≡ []
+  pub told : (gets : List Requested) → told_in gets event message ≡ []
   pub turn : is_turn event ≡ false
-  pub acks : (puts : List RequestNo) (clouds : List ℕ) → with_event puts clouds event message ≡ clouds
+  pub acks : (puts : List Requested) (clouds : List ℕ) → with_event puts clouds event message ≡ clouds
 
 pub plain_call : (a : ℕ) (call : Call) (message : Option Message) → IsPlain (events.Call a call) message
 plain_call a call message = record { told = λ gets. refl; turn = refl; acks = λ puts clouds. refl }
@@ -63,7 +62,7 @@ gets_next e own saw none =
     ap (λ b. cond b [] (gets_since own) ++ flat_map get_in e.lines) saw
     ∙ ap (λ l. gets_since own ++ l) none ∙ append-nil (gets_since own)
 
-pub told_next : (e : Entry) (own : History) → saw_in e ≡ false → ((gets : List Got) → told_in gets e.event e.message ≡ []) → told_since (e ∷ own) ≡ told_since own
+pub told_next : (e : Entry) (own : History) → saw_in e ≡ false → ((gets : List Requested) → told_in gets e.event e.message ≡ []) → told_since (e ∷ own) ≡ told_since own
 told_next e own saw none =
     ap (λ b. cond b [] (told_in (gets_since own) e.event e.message ++ told_since own)) saw
     ∙ ap (λ (l : List Told). l ++ told_since own) (none (gets_since own))
@@ -74,7 +73,7 @@ order_next e own saw = ap (λ b. if_some (cond b (Some e) (find saw_in own)) [] 
 pub fetch_next : (s : Setup) (e : Entry) (own : History) (o : Opening) → IsQuiet e → fetch_of s (e ∷ own) o ≡ fetch_of s own o
 fetch_next s e own o quiet =
     let row = row_of s o.version in
-    let at : List ℕ → List Got → List Told → Fetch = λ order gets past.
+    let at : List ℕ → List Requested → List Told → Fetch = λ order gets past.
     record {
       session = o.session;
       writes = o.writes;
@@ -90,8 +89,8 @@ fetch_next s e own o quiet =
 pub upload_next : (s : Setup) (e : Entry) (own : History) (h : ℕ) (y : Session) (u : UploadNo) (commit : Option Ask) → IsQuiet e
     → upload_of s (e ∷ own) h y u commit ≡ upload_of s own h y u commit
 upload_next s e own h y u commit quiet =
-    let at : List ℕ → ℕ → List RequestNo → Upload = λ clouds turns puts.
-    record (upload_of s own h y u commit) { acks = acks_of s.header.f clouds; turns = min 8 turns; puts = puts } in
+    let at : List ℕ → ℕ → List Requested → Upload = λ clouds turns puts.
+    record (upload_of s own h y u commit) { acks = acks_of s.header.f clouds; turns = min 8 turns; puts = map asked_as puts } in
     ap (λ clouds. at clouds (turns_of (e ∷ own) u) (puts_of (e ∷ own) u)) (quiet.plain.acks (puts_of own u) (acked own u))
     ∙ ap (λ turns. at (acked own u) turns (puts_of (e ∷ own) u)) (turns_next e own u quiet.plain.turn)
     ∙ ap (λ puts. at (acked own u) (turns_of own u) puts) (puts_next e own u quiet.puts)
@@ -130,7 +129,7 @@ closing_next : (e : Entry) (own : History) (u : UploadNo) (a incarnation uploads
     → IsClosing (e ∷ own) u a incarnation uploads
 closing_next e own u a incarnation uploads quiet h = record {
   drawn = h.drawn;
-  begun = ap (λ puts. list_any (λ (request : RequestNo). true) puts) (puts_next e own u quiet.puts) ∙ h.begun;
+  begun = ap (λ puts. list_any (λ (put : Requested). true) puts) (puts_next e own u quiet.puts) ∙ h.begun;
 }
 
 commit_next : (s : Setup) (e : Entry) (own : History) (h : ℕ) (y : Session) (u : UploadNo) (step : Option Ask) → IsQuiet e

@@ -17,7 +17,7 @@ use Rattle.scfs_model.specs.History.{Message, Entry, History}
 use Rattle.scfs_model.specs.History as history
 use Rattle.scfs_model.specs.Tree.{Version}
 use Rattle.scfs_model.specs.UnitFormat.{under, accepted}
-use Rattle.scfs_model.specs.Reads.{Got, if_size, piece_in, root_of, is_answer_to, saw_in, gets_since, is_turn, turns_since, with_answer, with_event}
+use Rattle.scfs_model.specs.Reads.{Requested, if_size, piece_in, root_of, is_answer_to, saw_in, gets_since, is_turn, turns_since, with_answer, with_event}
 use Rattle.scfs_model.specs.Reads as reads
 use Rattle.scfs_agent.specs.Anchored.{row_of}
 use Rattle.scfs_agent.specs.Acting.{reading_of}
@@ -71,7 +71,7 @@ told_pieces : (header : Header) (v : Version) (short : IsShortVersion v) (order 
 told_pieces header v short order true c answer past pieces e = answer_pieces header v short order c answer past pieces e
 told_pieces header v short order false c answer past pieces e = e
 
-message_pieces : (header : Header) (v : Version) (short : IsShortVersion v) (order : List ℕ) (gets : List Got) (c : ℕ) (message : Option Message) (past : List Told)
+message_pieces : (header : Header) (v : Version) (short : IsShortVersion v) (order : List ℕ) (gets : List Requested) (c : ℕ) (message : Option Message) (past : List Told)
     (pieces : List KeptPiece) → pieces ≡ reading.good_pieces (read_of header v order) past
     → with_answer (under header) v gets pieces c message ≡ reading.good_pieces (read_of header v order) (told_by gets c message ++ past)
 message_pieces header v short order gets c None past pieces e = e
@@ -79,13 +79,13 @@ message_pieces header v short order gets c (Some (history.Asked request)) past p
 message_pieces header v short order gets c (Some (history.Answered request answer)) past pieces e =
     told_pieces header v short order (is_answer_to gets c request) c answer past pieces e
 
-event_pieces : (header : Header) (v : Version) (short : IsShortVersion v) (order : List ℕ) (gets : List Got) (event : Event) (message : Option Message) (past : List Told)
+event_pieces : (header : Header) (v : Version) (short : IsShortVersion v) (order : List ℕ) (gets : List Requested) (event : Event) (message : Option Message) (past : List Told)
     (pieces : List KeptPiece) → pieces ≡ reading.good_pieces (read_of header v order) past
     → with_event (under header) v gets pieces event message ≡ reading.good_pieces (read_of header v order) (told_in gets event message ++ past)
 event_pieces header v short order gets (events.Give c) message past pieces e = message_pieces header v short order gets c message past pieces e
 event_pieces header v short order gets other message past pieces e = e
 
-step_pieces : (header : Header) (v : Version) (short : IsShortVersion v) (order : List ℕ) (saw : Bool) (gets : List Got) (event : Event) (message : Option Message)
+step_pieces : (header : Header) (v : Version) (short : IsShortVersion v) (order : List ℕ) (saw : Bool) (gets : List Requested) (event : Event) (message : Option Message)
     (past : List Told) (pieces : List KeptPiece) → pieces ≡ reading.good_pieces (read_of header v order) past
     → cond saw [] (with_event (under header) v gets pieces event message)
     ≡ reading.good_pieces (read_of header v order) (cond saw [] (told_in gets event message ++ past))
@@ -104,18 +104,18 @@ told_turns : (b : Bool) (c : ℕ) (answer : CloudAnswer) (past : List Told) → 
 told_turns true c answer past = refl
 told_turns false c answer past = refl
 
-message_turns : (gets : List Got) (c : ℕ) (message : Option Message) (past : List Told) → turned past ≡ turned (told_by gets c message ++ past)
+message_turns : (gets : List Requested) (c : ℕ) (message : Option Message) (past : List Told) → turned past ≡ turned (told_by gets c message ++ past)
 message_turns gets c None past = refl
 message_turns gets c (Some (history.Asked request)) past = refl
 message_turns gets c (Some (history.Answered request answer)) past = told_turns (is_answer_to gets c request) c answer past
 
-event_turns : (gets : List Got) (event : Event) (message : Option Message) (past : List Told) (turns : ℕ) → turns ≡ turned past
+event_turns : (gets : List Requested) (event : Event) (message : Option Message) (past : List Told) (turns : ℕ) → turns ≡ turned past
     → cond (is_turn event) (turns + 1) turns ≡ turned (told_in gets event message ++ past)
 event_turns gets (events.Turn a) message past turns e = ap (λ n. n + 1) e
 event_turns gets (events.Give c) message past turns e = e ∙ message_turns gets c message past
 event_turns gets other message past turns e = e
 
-step_turns : (saw : Bool) (gets : List Got) (event : Event) (message : Option Message) (past : List Told) (turns : ℕ) → turns ≡ turned past
+step_turns : (saw : Bool) (gets : List Requested) (event : Event) (message : Option Message) (past : List Told) (turns : ℕ) → turns ≡ turned past
     → cond saw 0 (cond (is_turn event) (turns + 1) turns) ≡ turned (cond saw [] (told_in gets event message ++ past))
 step_turns true gets event message past turns e = refl
 step_turns false gets event message past turns e = event_turns gets event message past turns e

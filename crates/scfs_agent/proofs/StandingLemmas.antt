@@ -12,6 +12,7 @@ use Rattle.scfs_model.specs.UnitFormat.{under}
 use Rattle.scfs_model.specs.History.{Message, Entry, History}
 use Rattle.scfs_model.specs.Ranks.{Counted}
 use Rattle.scfs_model.specs.Agents.{Agent, Opening, Waiting, For_clouds, Closed, Ask, Reaction}
+use Rattle.scfs_model.specs.Reads.{Requested}
 use Rattle.scfs_model.specs.Uploads.{puts_in}
 use Rattle.scfs_agent.specs.Acting.{Done}
 use Rattle.scfs_agent.specs.Acts.{counting}
@@ -33,7 +34,7 @@ HasNoLater a incarnation uploads e = (k : ℕ) → uploads < k → k < 2 ^ 32 �
 pub fresh-on : (a incarnation uploads : ℕ) (e : Entry) (own : History) → IsFresh a incarnation uploads own → HasNoLater a incarnation uploads e
     → IsFresh a incarnation uploads (e ∷ own)
 fresh-on a incarnation uploads e own fresh none k later fits =
-    ap (λ (puts : List RequestNo). puts ++ puts_in (upload_name (upload_no a incarnation k)) e) (fresh k later fits) ∙ none k later fits
+    ap (λ (puts : List Requested). puts ++ puts_in (upload_name (upload_no a incarnation k)) e) (fresh k later fits) ∙ none k later fits
 
 -- the parts of an agent that an event changed
 abbrev pub changed : Agent → Option Waiting → OpenSessions → List Closed → List Ask → (requests : ℕ) → Agent

@@ -12,7 +12,7 @@ use Rattle.scfs_model.specs.History.{Message, History}
 use Rattle.scfs_model.specs.Ranks.{Counted}
 use Rattle.scfs_model.specs.Agents.{Agent, Opening, Reaction, reaction_of}
 use Rattle.scfs_model.specs.Reactions.{Of_answers, read_open}
-use Rattle.scfs_model.specs.Reads.{Got, gets_since, order_since, turns_since, Asks_gets, Gives_up, open_turned}
+use Rattle.scfs_model.specs.Reads.{Requested, gets_since, order_since, turns_since, Asks_gets, Gives_up, open_turned}
 use Rattle.scfs_model.specs.Reads as model
 use Rattle.scfs_agent.specs.Acting.{Done, tracker_at, fetch_turns, turned_fetch}
 use Rattle.scfs_agent.specs.Standing.{told_since, fetch_of, state_of, IsAgent, HasDrawn}

@@ -4,7 +4,6 @@ use Rattle.std.specs.Prelude.{◌==◌}
 use Rattle.std.proofs.lemmas.Bool.{and_parts}
 use Rattle.std.proofs.lemmas.Bool.Decides.{nat_tests}
 use Rattle.std.proofs.lemmas.List.{length_push}
-use Rattle.scfs_base.specs.declared.naming.RequestNo.{RequestNo}
 use Rattle.scfs_base.specs.declared.naming.UploadNo.{UploadNo}
 use Rattle.scfs_session.specs.declared.sessions.Session.{Session}
 use Rattle.scfs_model.specs.Format.{Setup, enough}
@@ -15,6 +14,7 @@ use Rattle.scfs_model.specs.Uploads.{with_cloud, acked}
 use Rattle.scfs_agent.specs.Acting.{silent, asks_puts}
 use Rattle.scfs_agent.specs.State.{AgentState}
 use Rattle.scfs_agent.specs.Standing.{IsItsCommit}
+use Rattle.scfs_agent.specs.declared.work.Asked.{Asked}
 use Rattle.scfs_agent.specs.declared.work.Upload.{Upload}
 use Rattle.scfs_agent.specs.declared.work.Work.TheVariants as works
 use Rattle.scfs_agent.proofs.AckMatches.{completes}
@@ -24,7 +24,7 @@ pub asks_puts-none : (agent : AgentState) (upload : Upload) → asks_puts agent 
 asks_puts-none agent upload =
     let same : agent.requests + 0 ≡ agent.requests = omega arith in
     ap (λ (k : ℕ). silent (record agent { requests = k; work = works.Upload (record upload { puts = upload.puts ++ [] }) })) same
-    ∙ ap (λ (puts : List RequestNo). silent (record agent { work = works.Upload (record upload { puts = puts }) })) (append-nil upload.puts)
+    ∙ ap (λ (puts : List Asked). silent (record agent { work = works.Upload (record upload { puts = puts }) })) (append-nil upload.puts)
 
 -- before enough clouds acknowledged, no commit was asked
 pub commit_none : (s : Setup) (own : History) (h : ℕ) (y : Session) (u : UploadNo) (step : Option Ask) → IsItsCommit s own h y u step

@@ -1,7 +1,6 @@
 -- The commit of an upload is asked, or the upload is short.
-use Rattle.std.proofs.Common.{◌≡◌, ℕ, ◌+◌, ◌<◌, ◌≤◌, true, List, [], ◌∷◌, ◌++◌, length, Option, Some, None, refl, sym, ap, ◌∙◌, subst, arith, append-nil}
+use Rattle.std.proofs.Common.{◌≡◌, ℕ, ◌+◌, ◌<◌, ◌≤◌, true, List, [], ◌∷◌, ◌++◌, length, map, Option, Some, None, refl, sym, ap, ◌∙◌, subst, arith, append-nil}
 use Rattle.std.proofs.lemmas.List.Elements.{All-head}
-use Rattle.scfs_base.specs.declared.naming.RequestNo.{RequestNo}
 use Rattle.scfs_base.specs.declared.naming.UploadNo.{UploadNo}
 use Rattle.scfs_schedule.specs.declared.types.Event.{Event}
 use Rattle.scfs_schedule.specs.declared.types.Header.{Header}
@@ -23,7 +22,8 @@ use Rattle.scfs_agent.specs.Acting.{commits, first_says, unlocks_if}
 use Rattle.scfs_agent.specs.Acts.{counting}
 use Rattle.scfs_agent.specs.Reacting.{entry_of}
 use Rattle.scfs_agent.specs.State.{AgentState}
-use Rattle.scfs_agent.specs.Standing.{state_of, awaited, upload_of, IsShort, IsClosing, IsWaiting, IsAgent, HasDrawn}
+use Rattle.scfs_agent.specs.Standing.{asked_as, state_of, awaited, upload_of, IsShort, IsClosing, IsWaiting, IsAgent, HasDrawn}
+use Rattle.scfs_agent.specs.declared.work.Asked.{Asked}
 use Rattle.scfs_agent.specs.declared.work.Upload.{Upload}
 use Rattle.scfs_agent.specs.declared.work.Work.TheVariants as works
 use Rattle.scfs_agent.proofs.EntryMatches.{ArePlain, put-asking}
@@ -84,8 +84,8 @@ state_later header a n base counted own h y u event message ranks before plain i
     let e = commit_entry header a base h y u event message ranks before in
     let x = commit_ask a base h y u in
     let later : Upload → AgentState = λ upload. record start { inputs = n + 1; requests = base.requests + 1; work = works.Upload upload } in
-    ap later (ap (λ (puts : List RequestNo). record (upload_told s own h y u (Some x) event message) { puts = puts }) (sym (append-nil (puts_of own u))))
-    ∙ ap later (sym (upload_of-on s e own h y u (Some x) [] is.begun (no_put header a base h y u event message ranks before (upload_name u) plain)))
+    ap later (ap (λ (puts : List Asked). record (upload_told s own h y u (Some x) event message) { puts = puts }) (sym (append-nil (map asked_as (puts_of own u)))))
+    ∙ ap later (sym (upload_of-on s e own h y u (Some x) [] is.begun (ap (map asked_as) (no_put header a base h y u event message ranks before (upload_name u) plain))))
     ∙ ap (λ (step : Option Ask). later (upload_of s (e ∷ own) h y u step)) (sym (awaited_push base.pending x alone))
 
 -- the numbers of an upload that is drawn fit

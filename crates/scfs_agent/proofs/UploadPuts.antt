@@ -13,10 +13,10 @@ use Rattle.scfs_model.specs.History.{Message, Entry, History}
 use Rattle.scfs_model.specs.Ranks.{Counted}
 use Rattle.scfs_model.specs.Agents.{Agent, For_close, Ask, Request, Put, numbered, steps_in, asking, Reaction, reaction_of}
 use Rattle.scfs_model.specs.Uploads.{puts_in, puts_of, acked}
-use Rattle.scfs_agent.specs.Acting.{Done, numbered_from, requests_of, asks_puts}
+use Rattle.scfs_agent.specs.Acting.{Done, numbered_from, asks_puts}
 use Rattle.scfs_agent.specs.Acts.{counting}
 use Rattle.scfs_agent.specs.Reacting.{entry_of}
-use Rattle.scfs_agent.specs.Standing.{upload_of, state_of, awaited, IsClosing, IsWaiting, IsAgent, HasDrawn}
+use Rattle.scfs_agent.specs.Standing.{asked_as, upload_of, state_of, awaited, IsClosing, IsWaiting, IsAgent, HasDrawn}
 use Rattle.scfs_agent.specs.declared.work.Asked.{Asked}
 use Rattle.scfs_agent.specs.declared.work.Upload.{Upload}
 use Rattle.scfs_agent.specs.declared.work.Work.TheVariants as works
@@ -47,9 +47,9 @@ puts_entry header a base h y u event message ranks before clouds = entry_of (und
 
 put_entry : (header : Header) (a : ℕ) (base : Agent) (h : ℕ) (y : Session) (u : UploadNo) (event : Event) (message : Option Message) (ranks : List ℕ)
     (before : List Line) (clouds : List ℕ) → ArePlain (before ++ [])
-    → puts_in (upload_name u) (puts_entry header a base h y u event message ranks before clouds) ≡ requests_of (more_puts a base clouds)
+    → map asked_as (puts_in (upload_name u) (puts_entry header a base h y u event message ranks before clouds)) ≡ more_puts a base clouds
 put_entry header a base h y u event message ranks before clouds plain =
-    put-asking (under header) (upload_name u) (before ++ []) (numbered a base.incarnation base.requests (puts_to u y.contents clouds)) plain
+    ap (map asked_as) (put-asking (under header) (upload_name u) (before ++ []) (numbered a base.incarnation base.requests (puts_to u y.contents clouds)) plain)
     ∙ puts_of_puts (under header) u y.contents (upload_name u) a base.incarnation base.requests clouds (same_name (upload_name u))
 
 -- the agent that asks them
@@ -73,9 +73,9 @@ state_later header a n base counted own h y u event message ranks before clouds 
     let s = under header in
     let start = state_of s a n (closer base h y u) counted own in
     let e = puts_entry header a base h y u event message ranks before clouds in
-    let more = requests_of (more_puts a base clouds) in
+    let more = more_puts a base clouds in
     let told = upload_told s own h y u (awaited base.pending) event message in
-    let upload : Upload = record told { puts = puts_of own u ++ more } in
+    let upload : Upload = record told { puts = map asked_as (puts_of own u) ++ more } in
     let asks = puts_to u y.contents clouds in
     let steps = base.pending ++ steps_in (numbered a base.incarnation base.requests asks) in
     ap (λ (k : ℕ). record start { inputs = n + 1; requests = base.requests + k; work = works.Upload upload })

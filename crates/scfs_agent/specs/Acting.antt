@@ -46,7 +46,7 @@ use Rattle.scfs_model.specs.Lists.{if_some, below}
 use Rattle.scfs_model.specs.Names.{root_id, request_no, file_id, upload_no, upload_name, same_request}
 use Rattle.scfs_model.specs.UnitFormat.{draw_for}
 use Rattle.scfs_model.specs.Ranks.{order_by}
-use Rattle.scfs_model.specs.Uploads.{acknowledges}
+use Rattle.scfs_model.specs.Uploads.{is_ack}
 use Rattle.scfs_agent.specs.Anchored.{create, stat}
 use Rattle.scfs_agent.specs.State.{AgentState}
 use Rattle.scfs_agent.specs.declared.types.Output.{Output}
@@ -155,9 +155,6 @@ put_output row objects x = outputs.Cloud x.cloud x.request (asks.Put (upload_nam
 abbrev pub put_outputs : VersionRow → (objects : List (List ℕ)) → List Asked → List Output
 put_outputs row objects puts = map (put_output row objects) puts
 
-abbrev pub requests_of : List Asked → List RequestNo
-requests_of puts = map (λ (x : Asked). x.request) puts
-
 -- there are 3f + 1 clouds
 abbrev pub all_clouds : AgentState → List ℕ
 all_clouds agent = below (3 * agent.f + 1)
@@ -196,7 +193,7 @@ begins agent h y =
                   objects = it.objects;
                   acks = no_acks agent.f 1;
                   turns = 0;
-                  puts = requests_of puts;
+                  puts = puts;
                   commit = None;
                 });
           };
@@ -332,9 +329,9 @@ told_at agent ranks request result (works.Upload upload) = told_upload agent req
 abbrev pub on_told : AgentState → (ranks : List ℕ) → RequestNo → Reply → Done
 on_told agent ranks request reply = told_at agent ranks request reply.result agent.work
 
--- whether an answer of a cloud is to one of these Gets, asked of that cloud
+-- whether an answer of a cloud is to one of these requests, made of that cloud
 abbrev pub is_answer_to : List Asked → (c : ℕ) → RequestNo → Bool
-is_answer_to gets c request = list_any (λ (g : Asked). (g.cloud == c) && same_request g.request request) gets
+is_answer_to asked c request = list_any (λ (x : Asked). (x.cloud == c) && same_request x.request request) asked
 
 -- further Gets are asked of these clouds
 abbrev pub asks_gets : AgentState → Fetch → (clouds : List ℕ) → (after : Tracker) → Done
@@ -387,10 +384,14 @@ progresses_to agent upload progresses.Done = commits agent upload
 progresses_to agent upload progresses.Already = silent (record agent { work = works.Upload upload })
 progresses_to agent upload (progresses.Counted count) = silent (record agent { work = works.Upload upload })
 
+-- whether an answer of a cloud acknowledges one of these Puts
+abbrev pub acknowledges : List Asked → (c : ℕ) → RequestNo → CloudAnswer → Bool
+acknowledges puts c request answer = is_ack answer && is_answer_to puts c request
+
 -- a cloud's answer to an upload
 abbrev pub heard_upload : AgentState → Upload → (c : ℕ) → RequestNo → CloudAnswer → Done
 heard_upload agent upload c request answer =
-    if acknowledges upload.puts request answer
+    if acknowledges upload.puts c request answer
     then progresses_to agent (record upload { acks = with_ack upload.acks c 0 }) (progress upload.acks c 0)
     else silent agent
 
@@ -422,7 +423,7 @@ asks_puts agent upload clouds =
       agent =
           record agent {
             requests = agent.requests + length puts;
-            work = works.Upload (record upload { puts = upload.puts ++ requests_of puts });
+            work = works.Upload (record upload { puts = upload.puts ++ puts });
           };
       outputs = put_outputs upload.row upload.objects puts;
     }

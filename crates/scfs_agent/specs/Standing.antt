@@ -16,7 +16,7 @@ use Rattle.scfs_session.specs.declared.contents.TheConstants.{CONTENTS_LIMIT}
 use Rattle.scfs_model.specs.Steps.{Step, Create, Stat, Open_read, Open_write, Commit, Unlock}
 use Rattle.scfs_model.specs.Ranks.{Counted, good_count, bad_count}
 use Rattle.scfs_model.specs.Agents.{Opening, Waiting, For_step, For_clouds, For_close, Closed, Ask, Agent}
-use Rattle.scfs_model.specs.Reads.{Got, saw_in, gets_since, order_since, is_answer_to}
+use Rattle.scfs_model.specs.Reads.{Requested, saw_in, gets_since, order_since, is_answer_to}
 use Rattle.scfs_model.specs.Uploads.{puts_of, acked, turns_of}
 use Rattle.scfs_anchor.specs.Replies.{IsRow}
 use Rattle.scfs_agent.specs.Anchored.{row_of, step_of, closing}
@@ -36,13 +36,13 @@ use Rattle.scfs_agent.specs.declared.work.Work.TheVariants as works
 -- part of the history that it had itself.
 
 -- what an answer tells an open with these Gets: only one to a Get that was asked of that cloud
-abbrev pub told_by : List Got → (c : ℕ) → Option Message → List Told
+abbrev pub told_by : List Requested → (c : ℕ) → Option Message → List Told
 told_by gets c None = []
 told_by gets c (Some (history.Asked request)) = []
 told_by gets c (Some (history.Answered request answer)) = if is_answer_to gets c request then Answered c answer ∷ [] else []
 
 -- what an event tells an open with these Gets
-abbrev pub told_in : List Got → Event → Option Message → List Told
+abbrev pub told_in : List Requested → Event → Option Message → List Told
 told_in gets (events.Give c) message = told_by gets c message
 told_in gets (events.Turn a) message = Turned ∷ []
 told_in gets other message = []
@@ -52,7 +52,7 @@ abbrev pub told_since : History → List Told
 told_since [] = []
 told_since (e ∷ own) = if saw_in e then [] else told_in (gets_since own) e.event e.message ++ told_since own
 
-abbrev pub asked_as : Got → Asked
+abbrev pub asked_as : Requested → Asked
 asked_as g = record { request = g.request; cloud = g.cloud }
 
 abbrev pub fetch_of : Setup → (own : History) → Opening → Fetch
@@ -109,7 +109,7 @@ upload_of s own h y u commit =
       objects = (sealed s u y.contents).objects;
       acks = acks_of s.header.f (acked own u);
       turns = min 8 (turns_of own u);
-      puts = puts_of own u;
+      puts = map asked_as (puts_of own u);
       commit = option_map (step_asked s) commit;
     }
 
@@ -148,8 +148,8 @@ state_of s a inputs m counted own =
     }
 
 -- the clouds of these Gets are these clouds
-abbrev pub AreAskedOf : List Got → (clouds : List ℕ) → Type 0
-AreAskedOf gets clouds = (c : ℕ) → list_any (λ (g : Got). g.cloud == c) gets ≡ list_any (λ d. d == c) clouds
+abbrev pub AreAskedOf : List Requested → (clouds : List ℕ) → Type 0
+AreAskedOf gets clouds = (c : ℕ) → list_any (λ (g : Requested). g.cloud == c) gets ≡ list_any (λ d. d == c) clouds
 
 -- what holds of an open that reads the clouds
 pub record IsOpening (s : Setup) (own : History) (o : Opening) : Type 0 where
@@ -161,7 +161,7 @@ pub record IsOpening (s : Setup) (own : History) (o : Opening) : Type 0 where
 -- what holds of a closed session's upload: it began, and has its commit once enough clouds acknowledged
 pub record IsClosing (own : History) (u : UploadNo) (a incarnation uploads : ℕ) : Type 0 where
   pub drawn : u ≡ upload_no a incarnation uploads
-  pub begun : list_any (λ request. true) (puts_of own u) ≡ true
+  pub begun : list_any (λ put. true) (puts_of own u) ≡ true
 
 -- the commit that is asked of a closed session, if it is, is its own, and enough clouds acknowledged
 abbrev pub IsItsCommit : Setup → (own : History) → (h : ℕ) → Session → UploadNo → Option Ask → Type 0

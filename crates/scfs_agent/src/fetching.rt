@@ -4,15 +4,15 @@ ghost use Rattle.scfs_session.specs.declared.sessions.Session.{Session};
 ghost use Rattle.scfs_session.specs.declared.contents.TheConstants.{CONTENTS_LIMIT};
 ghost use Rattle.scfs_quorum_read.specs.Reading.{Told, is_among};
 ghost use Rattle.scfs_quorum_read.specs.Tracking.{StandsFor};
-ghost use Rattle.scfs_agent.specs.Acting.{DoesAs, fetches, opened_as, opened_line, saying, is_answer_to, asks_gets, reads, heard_fetch, turned_fetch, fetch_turns, unlocks_if, first_says, counted, one_more};
+ghost use Rattle.scfs_agent.specs.Acting.{DoesAs, fetches, opened_as, opened_line, saying, asks_gets, reads, heard_fetch, turned_fetch, fetch_turns, unlocks_if, first_says, counted, one_more};
 ghost use Rattle.scfs_agent.specs.Keeping.{HasRead, IsFetch, Keeps, working};
 ghost use Rattle.scfs_agent.specs.Reacting.{FitsOutput};
 ghost use Rattle.scfs_schedule.specs.declared.types.Line.TheVariants as lines;
 ghost use Rattle.scfs_agent.specs.declared.work.Work.TheVariants as works;
 
 use crate::ordering::order_by;
-use crate::outputs::{after_line, alone, append, count_at, get_outputs, numbered, same_request};
-use crate::work::{Asked, Fetch, Work};
+use crate::outputs::{after_line, alone, append, count_at, get_outputs, is_answer_to, numbered};
+use crate::work::{Fetch, Work};
 use crate::{Agent, Output};
 use scfs_anchor::{VersionRow, unlock};
 use scfs_base::{Bytes, CloudAnswer, FileId, Memory, RequestNo, Sequence};
@@ -23,20 +23,6 @@ use std::alloc::Global;
 
 /// The turns after which an open is given up.
 const TURNS: u8 = 8;
-
-/// Whether an answer of a cloud is to one of these Gets, asked of that cloud.
-fn is_answer_to(gets: &[Asked], cloud: u8, request: RequestNo) -> bool
-    ensures { result ≡ is_answer_to gets.now cloud request }
-{
-    let mut rest = gets;
-    'each: while let Some((get, others)) = rest.split_first() {
-        if get.cloud == cloud && same_request(get.request, request) {
-            return true;
-        }
-        rest = others;
-    }
-    false
-}
 
 /// The clouds of an order that gave no good answer.
 fn wanted(alloc: Global, order: &[u8], tracker: &ReadTracker) -> Result<Sequence<u8>, Memory>

@@ -1,5 +1,5 @@
 ghost use Rattle.std.specs.Prelude.{◌≡◌, ◌<◌, ◌≤◌, ◌+◌, ◌*◌, ◌^◌, [], ◌∷◌, ◌++◌, length, slice_get, slice_index_or, IfOk, OnOk};
-ghost use Rattle.scfs_agent.specs.Acting.{numbered_from, get_output, get_outputs, put_output, put_outputs, requests_of};
+ghost use Rattle.scfs_agent.specs.Acting.{numbered_from, get_output, get_outputs, put_output, put_outputs, is_answer_to};
 ghost use Rattle.scfs_model.specs.Lists.{if_some};
 ghost use Rattle.scfs_model.specs.Names.{same_request, upload_name};
 
@@ -50,6 +50,20 @@ pub fn same_request(one: RequestNo, other: RequestNo) -> bool
     one.agent == other.agent && one.incarnation == other.incarnation && one.number == other.number
 }
 
+/// Whether an answer of a cloud is to one of these requests, made of that cloud.
+pub fn is_answer_to(asked: &[Asked], cloud: u8, request: RequestNo) -> bool
+    ensures { result ≡ is_answer_to asked.now cloud request }
+{
+    let mut rest = asked;
+    'each: while let Some((first, others)) = rest.split_first() {
+        if first.cloud == cloud && same_request(first.request, request) {
+            return true;
+        }
+        rest = others;
+    }
+    false
+}
+
 /// Requests to these clouds, numbered behind those drawn before.
 pub fn numbered(
     alloc: Global,
@@ -87,18 +101,6 @@ pub fn append(all: &mut Sequence<Asked>, more: &[Asked]) -> Result<(), Memory>
     let mut rest = more;
     'each: while let Some((asked, others)) = rest.split_first() {
         all.push(*asked)?;
-        rest = others;
-    }
-    Ok(())
-}
-
-/// Puts the numbers of further requests behind those asked before.
-pub fn append_numbers(all: &mut Sequence<RequestNo>, more: &[Asked]) -> Result<(), Memory>
-    ensures { OnOk result (all.new ≡ all.old ++ requests_of more.now) }
-{
-    let mut rest = more;
-    'each: while let Some((asked, others)) = rest.split_first() {
-        all.push(asked.request)?;
         rest = others;
     }
     Ok(())

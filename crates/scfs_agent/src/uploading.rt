@@ -6,16 +6,15 @@ ghost use Rattle.scfs_session.specs.declared.contents.TheConstants.{CONTENTS_LIM
 ghost use Rattle.scfs_quorum_write.specs.Acks.{clouds_of};
 ghost use Rattle.scfs_model.specs.Lists.{below};
 ghost use Rattle.scfs_model.specs.Names.{upload_no};
-ghost use Rattle.scfs_model.specs.Uploads.{acknowledges};
 ghost use Rattle.scfs_model.specs.UnitFormat.{draw_for};
 ghost use Rattle.scfs_unit.specs.Unit as unit;
-ghost use Rattle.scfs_agent.specs.Acting.{DoesAs, begins, commits, heard_upload, turned_upload, asks_puts, row_from};
+ghost use Rattle.scfs_agent.specs.Acting.{DoesAs, acknowledges, begins, commits, heard_upload, turned_upload, asks_puts, row_from};
 ghost use Rattle.scfs_agent.specs.Keeping.{HasRoom, IsUpload, Keeps, left_session, working};
 ghost use Rattle.scfs_agent.specs.Reacting.{FitsOutput};
 ghost use Rattle.scfs_agent.specs.declared.work.Work.TheVariants as works;
 
-use crate::outputs::{alone, append_numbers, numbered, put_outputs, same_request};
-use crate::work::{AskedStep, Upload, Work};
+use crate::outputs::{alone, append, is_answer_to, numbered, put_outputs};
+use crate::work::{Asked, AskedStep, Upload, Work};
 use crate::{Agent, Output};
 use scfs_anchor::{VersionRow, commit};
 use scfs_base::{CloudAnswer, Memory, RequestNo, Sequence, UploadNo};
@@ -59,21 +58,15 @@ fn missing(alloc: Global, f: u8, acks: &PutTracker) -> Result<Sequence<u8>, Memo
     Ok(clouds)
 }
 
-/// Whether an answer acknowledges one of these Puts.
-fn acknowledges(puts: &[RequestNo], request: RequestNo, answer: &CloudAnswer) -> bool
-    ensures { result ≡ acknowledges puts.now request answer.now }
+/// Whether an answer of a cloud acknowledges one of these Puts.
+fn acknowledges(puts: &[Asked], cloud: u8, request: RequestNo, answer: &CloudAnswer) -> bool
+    ensures { result ≡ acknowledges puts.now cloud request answer.now }
 {
-    let CloudAnswer::Ack = answer else {
-        return false;
-    };
-    let mut rest = puts;
-    'each: while let Some((put, others)) = rest.split_first() {
-        if same_request(request, *put) {
-            return true;
-        }
-        rest = others;
+    match answer {
+        CloudAnswer::Ack => is_answer_to(puts, cloud, request),
+        CloudAnswer::Absent | CloudAnswer::Fail | CloudAnswer::Bytes(_) | CloudAnswer::Names(_) =>
+            false,
     }
-    false
 }
 
 impl Agent {
@@ -160,7 +153,7 @@ impl Agent {
             upload.objects.as_slice(),
             puts.as_slice(),
         )?;
-        append_numbers(&mut upload.puts, puts.as_slice())?;
+        append(&mut upload.puts, puts.as_slice())?;
         self.requests += puts.len() as u64;
         self.work = Work::Upload(upload);
         Ok(given)
@@ -183,7 +176,7 @@ impl Agent {
         ensures asks { IfOk result (λ given. All (FitsOutput self.old.f) given) }
         ensures kept { OnOk result (Keeps self.old self.new) }
     {
-        if !acknowledges(upload.puts.as_slice(), request, answer) {
+        if !acknowledges(upload.puts.as_slice(), cloud, request, answer) {
             self.work = Work::Upload(upload);
             return Ok(Sequence::new(self.alloc));
         }

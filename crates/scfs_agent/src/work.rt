@@ -22,7 +22,7 @@ pub enum Purpose {
     Open { session: u64, writes: bool },
 }
 
-/// A Get that was asked of a cloud.
+/// A request that was made of a cloud.
 #[derive(Clone, Copy, Debug, PartialEq, Eq)]
 pub struct Asked {
     pub request: RequestNo,
@@ -42,7 +42,7 @@ pub struct Fetch {
 }
 
 /// The upload of a closed session: its number, the row of the version that it will be, one object a cloud, the acknowledgements and
-/// the turns (at most 8) so far, the numbers of the Puts, and the commit once that was asked.
+/// the turns (at most 8) so far, the Puts, and the commit once that was asked.
 #[derive(Drop)]
 pub struct Upload {
     pub session: u64,
@@ -50,7 +50,7 @@ pub struct Upload {
     pub objects: Sequence<Bytes>,
     pub acks: PutTracker,
     pub turns: u8,
-    pub puts: Sequence<RequestNo>,
+    pub puts: Sequence<Asked>,
     pub commit: Option<AskedStep>,
 }
 

@@ -7,6 +7,6 @@ pub loop-cloud-preserved : goal.loop-cloud-preserved
 loop-cloud-preserved g c = record {
   answers =
       answers_more _ c.args.self.now c.loop-cloud.cloud c.loop-cloud.ranks c.push.new.self c.facts_of_cloud.result c.rank.result
-      c.loop-cloud.invariant.answers c.facts_of_cloud.ensures c.rank.ensures c.in_ok-push.ensures.ok;
+      c.loop-cloud.invariant.answers c.facts_of_cloud.ensures c.rank.ensures (omega arith) c.in_ok-push.ensures.ok;
   count = grind (arith, common_steps);
 }
