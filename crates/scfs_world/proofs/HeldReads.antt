@@ -2,11 +2,11 @@ use Rattle.std.proofs.Common.{◌≡◌, ℕ, List, [], ◌∷◌, ◌++◌, len
 use Rattle.std.specs.Prelude.{◌==◌, option_to_list}
 use Rattle.std.specs.List.{All}
 use Rattle.std.proofs.lemmas.List.Elements.{All-nil, All-cons, All-append, All-contains, All-replicate}
+use Rattle.std.proofs.lemmas.Bool.{both_ways}
 use Rattle.std.proofs.lemmas.List.Folds.{list_any_none}
 use Rattle.scfs_base.specs.declared.naming.RequestNo.{RequestNo}
 use Rattle.scfs_base.specs.declared.cloud.CloudAnswer.{CloudAnswer}
-use Rattle.scfs_base.specs.declared.cloud.CloudRequest.{CloudRequest}
-use Rattle.scfs_base.specs.declared.cloud.CloudRequest.TheVariants as requests
+use Rattle.scfs_schedule.specs.declared.types.Call.{Call}
 use Rattle.scfs_schedule.specs.declared.types.Call.TheVariants as calls
 use Rattle.scfs_schedule.specs.declared.types.Event.{Event}
 use Rattle.scfs_schedule.specs.declared.types.Event.TheVariants as events
@@ -22,19 +22,17 @@ use Rattle.scfs_model.specs.Lists.{if_some}
 use Rattle.scfs_model.specs.Format.{Setup}
 use Rattle.scfs_model.specs.History.{Message, Asked, Answered, Entry, History, is_at, own}
 use Rattle.scfs_model.specs.Held.{fetched_by, fetched, held, ShowsHeld, ReadsHeld}
-use Rattle.scfs_model.specs.Agents.{Opening, Waiting, For_step, For_clouds, For_close, Agent, new_agent, Input, Calls, saying}
-use Rattle.scfs_model.specs.Calls.{unless_refused, call_of}
-use Rattle.scfs_model.specs.Requests.{request_line, request_lines}
+use Rattle.scfs_model.specs.Agents.{Opening, Waiting, For_step, For_clouds, For_close, Agent, new_agent}
 use Rattle.scfs_model.specs.Reads.{saw_in, is_saw, gets_since, piece_in, counts, good_pieces, with_event, Rests, Asks_gets, Opens, next_cloud, read_good, open_heard, read_heard}
-use Rattle.scfs_model.specs.Reactions.{Of_answers, Verdict, reacted, next_begun}
-use Rattle.scfs_model.specs.Files.{Files, Effect, comes, first_files}
+use Rattle.scfs_model.specs.Files.{Files, first_files}
 use Rattle.scfs_model.specs.Due.{actual, judged, made, actual_effect}
 use Rattle.scfs_model.specs.Run.{Happens}
 use Rattle.scfs_world.proofs.SoundHolds.{All-slice_get}
 use Rattle.scfs_world.proofs.HeldSessions.{AreHeld, held_found}
 use Rattle.scfs_world.proofs.HeldLines.{after_lines}
-use Rattle.scfs_world.proofs.HeldReactions.{IsFetched, AreUnseen, next_says_nothing}
-use Rattle.scfs_world.proofs.HeldFiles.{AllHeld, IsGot, request_lines_are, found_keeps, effect_holds, given_unseen}
+use Rattle.scfs_world.proofs.HeldReactions.{IsFetched, AreUnseen}
+use Rattle.scfs_world.proofs.HeldFiles.{AllHeld, IsGot, effect_holds, given_unseen}
+use Rattle.scfs_world.proofs.ReadLines.{HoldsElse, ShowsAt, effect_shows}
 
 -- an entry by its parts
 abbrev entry_of : Event → Option Message → List Line → (ranks : List ℕ) → Entry
@@ -111,64 +109,47 @@ always_held s (e ∷ past) happens =
     let kept = effect_holds s x past e.event e.message e.ranks (fetched s e past) (held s past) (always_held s past happens.1) got in
     subst (λ shown. AllHeld (λ b. after_lines b e.event (fetched s e past b) (held s past b) shown) effect.files.agents) (sym happens.0) kept
 
--- a line of bytes read shows these
-abbrev IsRead : List ℕ → Line → Type 0
-IsRead shown (lines.Data b k bytes) = bytes ≡ shown
-IsRead shown other = Unit {0}
+-- what is to hold of a line of an event, where a session holds these bytes: it shows none that were read, or it is that of a read
+abbrev IsRead : (holds : ℕ → ℕ → List ℕ) → Event → Line → Type 0
+IsRead holds event (lines.Data a h bytes) =
+    (offset : ℕ) × (count : ℕ) × (event ≡ events.Call a (calls.Read h offset count)) × (bytes ≡ bytes_from (holds a h) offset count)
+IsRead holds event other = Unit {0}
 
-one_read : (shown : List ℕ) (line : Line) → IsRead shown line → All (IsRead shown) (line ∷ [])
-one_read shown line h = All-cons (IsRead shown) line [] h (All-nil (IsRead shown))
+else_is_read : (holds : ℕ → ℕ → List ℕ) (event : Event) → HoldsElse (IsRead holds event)
+else_is_read holds event (lines.Data a h bytes) quiet = absurd (both_ways true quiet refl)
+else_is_read holds event other quiet = tt
 
-request_is_read : (shown : List ℕ) (s : Setup) (number : RequestNo) (c : ℕ) (body : CloudRequest) → IsRead shown (request_line s number c body)
-request_is_read shown s number c (requests.Put name body) = tt
-request_is_read shown s number c (requests.Get name limit) = tt
-request_is_read shown s number c (requests.Delete name) = tt
-request_is_read shown s number c (requests.List prefix) = tt
-
-session_is_read : (a h offset count : ℕ) (agent : Agent) (shown : List ℕ) (there : Option Session)
-    → ((y : Session) → there ≡ Some y → bytes_from y.contents offset count ≡ shown)
-    → All (IsRead shown) (unless_refused a agent (read_answer there offset count) (λ bytes. saying agent (lines.Data a h bytes))).says
-session_is_read a h offset count agent shown None same = one_read shown (lines.No a refusals.BadHandle) tt
-session_is_read a h offset count agent shown (Some y) same = by (nat_lt CONTENTS_LIMIT count)
+read_shows : (a h offset count : ℕ) (shown : List ℕ) (there : Option Session) (bytes : List ℕ)
+    → ((y : Session) → there ≡ Some y → bytes_from y.contents offset count ≡ shown) → read_answer there offset count ≡ Ok bytes → bytes ≡ shown
+read_shows a h offset count shown None bytes same is = cc
+read_shows a h offset count shown (Some y) bytes same is = by (nat_lt CONTENTS_LIMIT count) is
   where
-    bytes : List ℕ
-    bytes = bytes_from y.contents offset count
+    by : (b : Bool) → (if b then Err refusals.TooLong else Ok (bytes_from y.contents offset count)) ≡ Ok bytes → bytes ≡ shown
+    by true e = cc
+    by false e = let same_bytes : bytes_from y.contents offset count ≡ bytes = cc in sym same_bytes ∙ same y refl
 
-    by : (b : Bool) → All (IsRead shown) (unless_refused a agent (if b then Err refusals.TooLong else Ok bytes) (λ bytes. saying agent (lines.Data a h bytes))).says
-    by true = one_read shown (lines.No a refusals.TooLong) tt
-    by false = one_read shown (lines.Data a h bytes) (same y refl)
+-- a read shows what its session holds
+call_shows : (holds : ℕ → ℕ → List ℕ) (F : Files) (a : ℕ) (call : Call) → AllHeld holds F.agents → ShowsAt (IsRead holds (events.Call a call)) F (events.Call a call)
+call_shows holds F a (calls.Read h offset count) is = λ agent found bytes answered. (
+  offset,
+  count,
+  refl,
+  read_shows a h offset count (bytes_from (holds a h) offset count) (session_of agent.sessions h) bytes
+      (λ y there. ap (λ contents. bytes_from contents offset count) (sym (held_found (holds a) agent.sessions h y there (is a agent found)))) answered,
+)
+call_shows holds F a other is = λ agent found. tt
 
-call_is_read : (s : Setup) (a h offset count : ℕ) (agent : Agent) (shown : List ℕ) (waiting : Option Waiting)
-    → ((y : Session) → session_of agent.sessions h ≡ Some y → bytes_from y.contents offset count ≡ shown)
-    → All (IsRead shown) (call_of s a agent (calls.Read h offset count) waiting).says
-call_is_read s a h offset count agent shown None same = session_is_read a h offset count agent shown (session_of agent.sessions h) same
-call_is_read s a h offset count agent shown (Some waiting) same = one_read shown (lines.No a refusals.Busy) tt
-
-event_is_read : (s : Setup) (judge : ℕ → Input → Verdict) (ranks : List ℕ) (F : Files) (a h offset count : ℕ) (shown : List ℕ)
-    → ((agent : Agent) (y : Session) → slice_get F.agents a ≡ Some agent → session_of agent.sessions h ≡ Some y → bytes_from y.contents offset count ≡ shown)
-    → All (IsRead shown) (comes s Of_answers judge ranks F a [] (Calls (calls.Read h offset count))).lines
-event_is_read s judge ranks F a h offset count shown same =
-    found_keeps (λ (x : Effect). All (IsRead shown) x.lines) (slice_get F.agents a) _ _ (All-nil (IsRead shown)) (λ agent found.
-    let input = Calls (calls.Read h offset count) in
-    let first = call_of s a agent (calls.Read h offset count) agent.waiting in
-    let second = next_begun s a first.agent first.agent.closed in
-    let r = reacted s Of_answers a agent ranks (judge a input) input in
-    All-append (IsRead shown) r.says (request_lines s r.sent)
-    (All-append (IsRead shown) first.says second.says
-    (call_is_read s a h offset count agent shown agent.waiting (λ y there. same agent y found there))
-    (subst (All (IsRead shown)) (sym (next_says_nothing s a first.agent first.agent.closed)) (All-nil (IsRead shown))))
-    (request_lines_are (IsRead shown) s (request_is_read shown s) r.sent))
+event_shows : (holds : ℕ → ℕ → List ℕ) (F : Files) (event : Event) → AllHeld holds F.agents → ShowsAt (IsRead holds event) F event
+event_shows holds F (events.Call a call) is = call_shows holds F a call is
+event_shows holds F other is = tt
 
 shows_held : (s : Setup) (e : Entry) (past : History) → Happens s (e ∷ past) → ShowsHeld s past e
-shows_held s e past happens a h offset count bytes is there =
+shows_held s e past happens a h bytes there =
     let x = actual s past in
-    let shown = bytes_from (held s past a h) offset count in
-    let read = event_is_read s (judged s x past) e.ranks x.files a h offset count shown (λ agent y found session.
-    ap (λ contents. bytes_from contents offset count)
-    (sym (held_found (held s past a) agent.sessions h y session (always_held s past happens.1 a agent found)))) in
-    let lines_are : e.lines ≡ made s past (events.Call a (calls.Read h offset count)) e.message e.ranks =
-    happens.0 ∙ ap (λ event. made s past event e.message e.ranks) is in
-    All-contains (IsRead shown) e.lines (lines.Data a h bytes) (subst (All (IsRead shown)) (sym lines_are) read) there
+    let P = IsRead (held s past) e.event in
+    let shown = effect_shows P (else_is_read (held s past) e.event) s (judged s x past) x.files e.event e.message e.ranks
+    (event_shows (held s past) x.files e.event (always_held s past happens.1)) in
+    All-contains P e.lines (lines.Data a h bytes) (subst (All P) (sym happens.0) shown) there
 
 pub reads_are_held : (s : Setup) (past : History) → Happens s past → ReadsHeld s past
 reads_are_held s [] happens = tt

@@ -38,4 +38,6 @@ pub mod HeldLines
 pub mod HeldCalls
 pub mod HeldReactions
 pub mod HeldFiles
+mod ReadLines
 pub mod HeldReads
+mod PlayLemmas

@@ -30,7 +30,7 @@ use Rattle.scfs_unit.proofs.AcceptanceLemmas.{checked-object, object_only, IsPie
 use Rattle.scfs_unit.proofs.UnsealLemmas.{unseal-some}
 use Rattle.scfs_model.specs.History.{Message, Asked, Answered, History}
 use Rattle.scfs_model.specs.Tree.{Version}
-use Rattle.scfs_model.specs.Reads.{Got, saw_in, gets_since, root_of, if_size, piece_in, is_answer_to, is_among, counts, with_answer, with_event, good_pieces}
+use Rattle.scfs_model.specs.Reads.{Requested, saw_in, gets_since, root_of, if_size, piece_in, is_answer_to, is_among, counts, with_answer, with_event, good_pieces}
 use Rattle.scfs_model.specs.UnitFormat.{accepted, under}
 use Rattle.scfs_world.specs.Blocks.{blocks_in}
 use Rattle.scfs_world.proofs.AnsweredLemmas.{AreAmong, IsGiven, AreGiven}
@@ -134,7 +134,7 @@ both true true h = absurd (true≢false (sym h))
 both true false h = refl
 both false b h = absurd (true≢false (sym h))
 
-pub counts_new : (gets : List Got) (pieces : List KeptPiece) (c : ℕ) (request : RequestNo) → counts gets pieces c request ≡ true → is_among c pieces ≡ false
+pub counts_new : (gets : List Requested) (pieces : List KeptPiece) (c : ℕ) (request : RequestNo) → counts gets pieces c request ≡ true → is_among c pieces ≡ false
 counts_new gets pieces c request h = both (is_answer_to gets c request) (is_among c pieces) h
 
 good_counted : (f : ℕ) (root : Digest) (whole : List (List ℕ)) (c : ℕ) (pieces : List KeptPiece) (b : Bool) (p : Option KeptPiece)
@@ -144,7 +144,7 @@ good_counted f root whole c pieces false p new good h = h
 good_counted f root whole c pieces true None new good h = subst (AreGood f root whole) (sym (append-nil pieces)) h
 good_counted f root whole c pieces true (Some piece) new good h = good_push f root whole c pieces piece h (new refl) (good piece refl)
 
-good_answered : (header : Header) (v : Version) (whole : List (List ℕ)) (gets : List Got) (pieces : List KeptPiece) (c : ℕ) (message : Option Message)
+good_answered : (header : Header) (v : Version) (whole : List (List ℕ)) (gets : List Requested) (pieces : List KeptPiece) (c : ℕ) (message : Option Message)
     → IsGiven header.f whole (events.Give c) message → AreGood header.f (root_of (under header) v) whole pieces
     → AreGood header.f (root_of (under header) v) whole (with_answer (under header) v gets pieces c message)
 good_answered header v whole gets pieces c None given h = h
@@ -153,7 +153,7 @@ good_answered header v whole gets pieces c (Some (Answered request answer)) give
     good_counted header.f (root_of (under header) v) whole c pieces (counts gets pieces c request) (piece_in (under header) v c answer)
     (counts_new gets pieces c request) (λ piece is. good_in header v c answer whole piece given.0 given.1 is) h
 
-good_after : (header : Header) (v : Version) (whole : List (List ℕ)) (gets : List Got) (pieces : List KeptPiece) (event : Event) (message : Option Message)
+good_after : (header : Header) (v : Version) (whole : List (List ℕ)) (gets : List Requested) (pieces : List KeptPiece) (event : Event) (message : Option Message)
     → IsGiven header.f whole event message → AreGood header.f (root_of (under header) v) whole pieces
     → AreGood header.f (root_of (under header) v) whole (with_event (under header) v gets pieces event message)
 good_after header v whole gets pieces (events.Give c) message given h = good_answered header v whole gets pieces c message given h

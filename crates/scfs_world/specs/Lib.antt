@@ -10,3 +10,4 @@ pub mod Showing
 pub mod Doing
 pub mod Worlds
 pub mod Laws
+pub mod Happening

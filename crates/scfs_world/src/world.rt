@@ -8,6 +8,7 @@ ghost use Rattle.scfs_schedule.specs.declared.types.Event.TheVariants as events;
 ghost use Rattle.scfs_agent.specs.Keeping.{is_idle};
 ghost use Rattle.scfs_agent.specs.Reacting.{FitsInput};
 ghost use Rattle.scfs_world.specs.Doing.{IsDone, IsTooMuch};
+ghost use Rattle.scfs_world.specs.Happening.{PlaysOn};
 ghost use Rattle.scfs_world.specs.Standing.{IsTooLarge, Stands, Steps};
 ghost use Rattle.scfs_world.specs.State.{counted, desk_at};
 ghost use Rattle.scfs_world.specs.Worlds.{IsTooLargeUnasked, IsWorld, Keeps, StepsUnasked};
@@ -15,6 +16,7 @@ ghost use Rattle.scfs_world.specs.declared.fault.StepFault.TheVariants as StepFa
 
 use crate::desk::{Desk, StepReply};
 use crate::doing::do_outputs;
+use crate::ranges::brings_bytes;
 use crate::served::line_of;
 use crate::shown::{did_lines, moved_lines, one_line, sum_of};
 use crate::{StepFault, WorldEnd};
@@ -128,13 +130,14 @@ impl World {
         requires room { self.events < 1000000 }
         requires rank { IsRankRule (R.pre rank.now) }
         ensures stands { IfOk result (λ stepped. Steps (R.post rank.now) self stepped.world event.now stepped.lines) }
+        ensures plays { IfOk result (λ stepped. PlaysOn (R.post rank.now) self stepped.world event.now stepped.lines) }
         ensures too_large { IfErr result (λ end. end.fault ≡ StepFault.TooLarge → IsTooLarge (R.post rank.now) self event.now) }
         ensures world { IfOk result (λ stepped. IsWorld stepped.world) }
         ensures header { IfOk result (λ stepped. stepped.world.header ≡ self.header) }
         ensures events { IfOk result (λ stepped. stepped.world.events ≡ self.events + 1) }
     {
         let mut world = self;
-        match world.on(event, rank) {
+        match world.play(event, rank) {
             Ok(lines) => {
                 world.events += 1;
                 Ok(Stepped { world, lines })
@@ -143,6 +146,28 @@ impl World {
         }
     }
 
+    /// The event, and its lines. What it brings are bytes by its type, as a history that is played on needs.
+    fn play<R: Fn(RankFacts) -> u64>(
+        &mut self,
+        event: &Event,
+        rank: &RankRule<R>,
+    ) -> Result<Sequence<Line>, StepFault>
+        requires world { IsWorld self.old }
+        requires event { IsEvent self.old.header event.now }
+        requires built { is_built event.now ≡ true }
+        requires room { self.old.events < 1000000 }
+        requires rank { IsRankRule (R.pre rank.now) }
+        ensures stands { IfOk result (λ lines. Steps (R.post rank.now) self.old (counted self.new) event.now lines) }
+        ensures plays { IfOk result (λ lines. PlaysOn (R.post rank.now) self.old (counted self.new) event.now lines) }
+        ensures too_large { IfErr result (λ fault. fault ≡ StepFault.TooLarge → IsTooLarge (R.post rank.now) self.old event.now) }
+        ensures kept { OnOk result (Keeps self.old self.new) }
+    {
+        let lines = self.on(event, rank)?;
+        brings_bytes(event);
+        Ok(lines)
+    }
+
+    /// What the event does to its actor, and its lines.
     fn on<R: Fn(RankFacts) -> u64>(
         &mut self,
         event: &Event,
