@@ -9,21 +9,27 @@ use Rattle.scfs_cli.specs.declared.closing.Finish.{Finish}
 use Rattle.scfs_cli.specs.declared.closing.Finish.TheVariants as finishes
 use Rattle.scfs_cli.specs.declared.closing.Filled.{Filled}
 use Rattle.scfs_cli.specs.declared.closing.Filled.TheVariants as filleds
-use Rattle.scfs_cli.specs.Closing.{end_closing, bad_closing, stop_closing, closing_of, closing_status}
+use Rattle.scfs_cli.specs.Closing.{end_closing, bad_closing, stop_closing, closing_of, closing_status, closing_text, last_line_text, status_of}
 use Rattle.scfs_cli.specs.declared.closing.Status.{Status}
 use Rattle.scfs_cli.specs.declared.closing.Status.TheVariants as statuses
-use Rattle.scfs_cli.specs.Headline.{GetsText, IsStatus, last_line}
-use Rattle.scfs_cli.proofs.EdgeLemmas.{puts_then, then_front}
+use Rattle.scfs_cli.specs.declared.closing.LastLine.{LastLine}
+use Rattle.scfs_cli.specs.Edges.{GetsPart}
+use Rattle.scfs_cli.specs.Headline.{IsStatus, last_line}
+use Rattle.scfs_cli.proofs.EdgeLemmas.{puts_then, then_part}
 
--- a text that was written before another
-pub text_then : (status : Status) (a b c : Option (List ℕ)) (x y : List ℕ) → Puts a b x → GetsText status b c y → GetsText status a c (x ++ y)
-text_then statuses.Done a b c x y p g = puts_then a b c x y p g
-text_then statuses.Usage a b c x y p g = puts_then a b c x y p g
-text_then statuses.BadInput a b c x y p g = puts_then a b c x y p g
-text_then statuses.ReadFault a b c x y p g = puts_then a b c x y p g
-text_then statuses.TooLarge a b c x y p g = puts_then a b c x y p g
-text_then statuses.WriteFault a b c x y p g = then_front a b c x y p g
-text_then statuses.Memory a b c x y p g = then_front a b c x y p g
+-- the last line behind a text, where there is one
+pub line_behind : (a b c : Option (List ℕ)) (x : List ℕ) (last : LastLine) (closing : Option LastLine) → Some last ≡ closing → Puts a b x
+    → Puts b c (last_line_text last) → Puts a c (x ++ closing_text closing)
+line_behind a b c x last closing is p q = subst (λ (o : Option LastLine). Puts a c (x ++ closing_text o)) is (puts_then a b c x (last_line_text last) p q)
+
+-- and not all of it
+pub part_behind : (a b c : Option (List ℕ)) (x : List ℕ) (last : LastLine) (closing : Option LastLine) → Some last ≡ closing → Puts a b x
+    → GetsPart b c (last_line_text last) → GetsPart a c (x ++ closing_text closing)
+part_behind a b c x last closing is p q = subst (λ (o : Option LastLine). GetsPart a c (x ++ closing_text o)) is (then_part a b c x (last_line_text last) p q)
+
+-- its status
+pub status_behind : (status : Status) (last : LastLine) (closing : Option LastLine) → Some last ≡ closing → status ≡ status_of last → status ≡ closing_status closing
+status_behind status last closing is same = subst (λ (o : Option LastLine). status ≡ closing_status o) is same
 
 -- a replayed text never ends with the line of a wrong command
 usage_end : (line : ℕ) (filled : Filled) → statuses.Usage ≡ closing_status (end_closing line filled) → ⊥

@@ -1,8 +1,8 @@
-use Rattle.std.proofs.Common.{◌≡◌, ℕ, ◌+◌, ◌-◌, ◌≤◌, List, [], ◌++◌, refl, ap, ◌∙◌, sym, subst, Option, Some, None, length, take, drop, append_assoc, arith, append-nil, length-append}
+use Rattle.std.proofs.Common.{◌≡◌, ◌≢◌, ℕ, ◌+◌, ◌-◌, ◌≤◌, List, [], ◌∷◌, ◌++◌, refl, ap, ◌∙◌, sym, subst, Option, Some, None, length, take, drop, append_assoc, arith, append-nil, length-append}
 use Rattle.std.proofs.lemmas.List.{take_rest, take-append-drop}
 use Rattle.scfs_base.specs.Outside.{Takes, Puts, Rose}
 use Rattle.scfs_schedule.specs.Reading.{Reading, gives}
-use Rattle.scfs_cli.specs.Edges.{Feeds, GetsFront}
+use Rattle.scfs_cli.specs.Edges.{Feeds, GetsFront, GetsPart}
 
 pub puts_then : (a b c : Option (List ℕ)) (x y : List ℕ) → Puts a b x → Puts b c y → Puts a c (x ++ y)
 puts_then None b c x y p q = tt
@@ -35,9 +35,29 @@ front_of_more a b x y p = record { front = x; back = y; whole = refl; puts = p }
 pub front_then : (a b : Option (List ℕ)) (x y : List ℕ) → GetsFront a b x → GetsFront a b (x ++ y)
 front_then a b x y g = record { front = g.front; back = g.back ++ y; whole = ap (λ l. l ++ y) g.whole ∙ append_assoc g.front g.back y; puts = g.puts }
 
-pub then_front : (a b c : Option (List ℕ)) (x y : List ℕ) → Puts a b x → GetsFront b c y → GetsFront a c (x ++ y)
-then_front a b c x y p g =
-    record { front = x ++ g.front; back = g.back; whole = ap (λ l. x ++ l) g.whole ∙ sym (append_assoc x g.front g.back); puts = puts_then a b c x g.front p g.puts }
+more_still : (x y : List ℕ) → x ≢ [] → x ++ y ≢ []
+more_still [] y some none = some refl
+more_still (n ∷ x) y some none = cc
+
+-- of a longer text it is a part as well
+pub part_then : (a b : Option (List ℕ)) (x y : List ℕ) → GetsPart a b x → GetsPart a b (x ++ y)
+part_then a b x y g = record {
+  front = g.front;
+  back = g.back ++ y;
+  whole = ap (λ l. l ++ y) g.whole ∙ append_assoc g.front g.back y;
+  more = more_still g.back y g.more;
+  puts = g.puts;
+}
+
+-- a text, and then not all of another
+pub then_part : (a b c : Option (List ℕ)) (x y : List ℕ) → Puts a b x → GetsPart b c y → GetsPart a c (x ++ y)
+then_part a b c x y p g = record {
+  front = x ++ g.front;
+  back = g.back;
+  whole = ap (λ l. x ++ l) g.whole ∙ sym (append_assoc x g.front g.back);
+  more = g.more;
+  puts = puts_then a b c x g.front p g.puts;
+}
 
 pub front_of_nothing : (a : Option (List ℕ)) (x : List ℕ) → GetsFront a a x
 front_of_nothing a x = record { front = []; back = x; whole = refl; puts = puts_nothing a }

@@ -1,4 +1,4 @@
-use Rattle.std.proofs.Common.{◌≡◌, ℕ, ◌+◌, suc, List, [], ◌∷◌, refl, ap, ◌∙◌, sym, subst, Option, Some, None, length, arith, Bool, false, true, if◌then◌else◌, inl, inr}
+use Rattle.std.proofs.Common.{◌≡◌, ℕ, ◌+◌, suc, List, [], ◌∷◌, ◌++◌, ⊎_elim, refl, ap, ◌∙◌, sym, subst, Option, Some, None, length, arith, Bool, false, true, if◌then◌else◌, inl, inr}
 use Rattle.std.specs.Prelude.{IfSome}
 use Rattle.scfs_base.specs.Outside.{Puts}
 use Rattle.scfs_policy.specs.declared.rank.RankFacts.{RankFacts}
@@ -18,13 +18,15 @@ use Rattle.scfs_cli.specs.declared.closing.Finish.TheVariants as finishes
 use Rattle.scfs_cli.specs.Playing.{Playing, finish_at, unless_finished, before_event, events_played, finished, header_lines, under_header, played}
 use Rattle.scfs_cli.specs.declared.closing.Status.{Status}
 use Rattle.scfs_cli.specs.declared.closing.Status.TheVariants as statuses
-use Rattle.scfs_cli.specs.Closing.{closing_of}
-use Rattle.scfs_cli.specs.Edges.{GetsFront}
-use Rattle.scfs_cli.specs.Happening.{IsPlayed, IsTooLargeNext}
-use Rattle.scfs_cli.specs.Headline.{Closes, ReplaysText}
-use Rattle.scfs_cli.proofs.ClosingLemmas.{text_then}
+use Rattle.scfs_cli.specs.declared.closing.LastLine.{LastLine}
+use Rattle.scfs_cli.specs.Closing.{closing_of, closing_text, closing_status, last_line_text, status_of}
+use Rattle.scfs_cli.specs.Edges.{GetsFront, GetsPart}
+use Rattle.scfs_world.specs.Happening.{IsPlayed}
+use Rattle.scfs_cli.specs.Happening.{IsTooLargeNext, EndsWith}
+use Rattle.scfs_cli.specs.Headline.{Closes, GetsText, IsStatus, ReplaysText}
+use Rattle.scfs_cli.proofs.ClosingLemmas.{line_behind, part_behind, status_behind}
 use Rattle.scfs_cli.specs.Plays.{Plays, PlaysEvents, IsDone, entry_of}
-use Rattle.scfs_cli.proofs.EdgeLemmas.{front_of_nothing, front_then, puts_nothing}
+use Rattle.scfs_cli.proofs.EdgeLemmas.{front_of_more, front_of_nothing, front_then, part_then, puts_more, puts_nothing}
 use Rattle.scfs_cli.proofs.LawLemmas.{reads_held, runs_without}
 
 -- what a text says, with a history's events in front
@@ -144,7 +146,7 @@ plays_large allows header past whole rest event count a b is plays same large co
     }
 
 pub plays_fault : (allows : RankFacts → ℕ → Type 0) (header : Header) (past : History) (whole rest : Playing) (a b : Option (List ℕ)) →
-    IsHeader header → IsPlayed allows header past → whole ≡ after_past past rest → GetsFront a b (transcript past) → PlaysEvents allows header whole a b playeds.WriteFault
+    IsHeader header → IsPlayed allows header past → whole ≡ after_past past rest → GetsPart a b (transcript past) → PlaysEvents allows header whole a b playeds.WriteFault
 plays_fault allows header past whole rest a b is plays same g =
     record {
       past = past;
@@ -247,7 +249,7 @@ fault_text allows taken filled whole a b is p =
       plays = q.events.plays;
       held = q.events.held;
       run = q.events.run;
-      wrote = front_then a b (transcript q.events.past) [] q.events.wrote;
+      wrote = part_then a b (transcript q.events.past) [] q.events.wrote;
       decided = tt;
     }
 
@@ -264,16 +266,43 @@ memory_text allows taken filled whole a b is p =
       held = q.events.held;
       run = q.events.run;
       wrote = front_then a b (transcript q.events.past) [] q.events.wrote;
-      decided = tt;
+      decided = refl;
     }
 
--- and of a text that was played to its ending, with its last line
-pub closed_text : (allows : RankFacts → ℕ → Type 0) (taken : List ℕ) (filled : Filled) (whole : Playing) (a b c : Option (List ℕ)) (count : ℕ) (finish : Finish) (status : Status) → whole ≡ played (read false taken) →
-    Plays allows whole a b (playeds.Ended count finish) → Closes (closing_of count finish filled) b c status → ReplaysText allows taken filled a c status
-closed_text allows taken filled whole a b c count finish status is p closes =
+-- a history that ends what is played has the first of its events
+first_events : (allows : RankFacts → ℕ → Type 0) (header : Header) (past : History) (whole : Playing) (finish : Finish)
+    → EndsWith allows header past whole (Some finish) → EndsWith allows header past whole None
+first_events allows header past whole finish ends =
+    ⊎_elim (λ all. ([], all.0)) (λ large. (large.1.0 ∷ large.1.1, large.1.2)) ends
+
+-- of a text that was played to its finish, where memory was wanting for the last line
+pub unclosed_text : (allows : RankFacts → ℕ → Type 0) (taken : List ℕ) (filled : Filled) (whole : Playing) (a b c : Option (List ℕ)) (count : ℕ) (finish : Finish) →
+    whole ≡ played (read false taken) → Plays allows whole a b (playeds.Ended count finish) → Puts b c [] → ReplaysText allows taken filled a c statuses.Memory
+unclosed_text allows taken filled whole a b c count finish is p nothing =
     let q : Plays allows (played (read false taken)) a b (playeds.Ended count finish) = subst (λ (r : Playing). Plays allows r a b (playeds.Ended count finish)) is p in
-    let closing : closing_of count finish filled ≡ closing_of (length q.events.past) finish filled = ap (λ n. closing_of n finish filled) q.events.counts in
-    let closes' : Closes (closing_of (length q.events.past) finish filled) b c status = subst (λ line. Closes line b c status) closing closes in
+    let past = q.events.past in
+    record {
+      header = q.header;
+      past = past;
+      finish = None;
+      stated = q.under;
+      ends = first_events allows q.header past (played (read false taken)) finish q.events.ends;
+      plays = q.events.plays;
+      held = q.events.held;
+      run = q.events.run;
+      wrote = front_of_more a c (transcript past) [] (puts_more a b c (transcript past) q.events.wrote nothing);
+      decided = refl;
+    }
+
+-- of a text that was played to its finish, with what was written of its last line
+abbrev Closing : (allows : RankFacts → ℕ → Type 0) → List ℕ → Filled → Option (List ℕ) → Option (List ℕ) → Finish → History → Status → Type 0
+Closing allows taken filled a c finish past status =
+    let closing = closing_of (length past) finish filled in GetsText status a c (transcript past ++ closing_text closing) × IsStatus status closing
+
+finished_text : (allows : RankFacts → ℕ → Type 0) (taken : List ℕ) (filled : Filled) (a b c : Option (List ℕ)) (count : ℕ) (finish : Finish) (status : Status)
+    (q : Plays allows (played (read false taken)) a b (playeds.Ended count finish)) → Closing allows taken filled a c finish q.events.past status
+    → ReplaysText allows taken filled a c status
+finished_text allows taken filled a b c count finish status q closes =
     record {
       header = q.header;
       past = q.events.past;
@@ -283,9 +312,38 @@ closed_text allows taken filled whole a b c count finish status is p closes =
       plays = q.events.plays;
       held = q.events.held;
       run = q.events.run;
-      wrote = text_then status a b c (transcript q.events.past) _ q.events.wrote closes'.0;
-      decided = closes'.1;
+      wrote = closes.0;
+      decided = closes.1;
     }
+
+line_closes : (status : Status) (a b c : Option (List ℕ)) (x : List ℕ) (last : LastLine) (closing : Option LastLine) → Some last ≡ closing → Puts a b x
+    → Puts b c (last_line_text last) × (status ≡ status_of last) → Puts a c (x ++ closing_text closing) × (status ≡ closing_status closing)
+line_closes status a b c x last closing is p q = (line_behind a b c x last closing is p q.0, status_behind status last closing is q.1)
+
+by_status : (allows : RankFacts → ℕ → Type 0) (taken : List ℕ) (filled : Filled) (a b c : Option (List ℕ)) (count : ℕ) (finish : Finish) (last : LastLine)
+    (status : Status) (q : Plays allows (played (read false taken)) a b (playeds.Ended count finish)) → Some last ≡ closing_of (length q.events.past) finish filled
+    → Closes last b c status → ReplaysText allows taken filled a c status
+by_status allows taken filled a b c count finish last statuses.Done q is closes =
+    finished_text allows taken filled a b c count finish statuses.Done q (line_closes statuses.Done a b c _ last _ is q.events.wrote closes)
+by_status allows taken filled a b c count finish last statuses.Usage q is closes =
+    finished_text allows taken filled a b c count finish statuses.Usage q (line_closes statuses.Usage a b c _ last _ is q.events.wrote closes)
+by_status allows taken filled a b c count finish last statuses.BadInput q is closes =
+    finished_text allows taken filled a b c count finish statuses.BadInput q (line_closes statuses.BadInput a b c _ last _ is q.events.wrote closes)
+by_status allows taken filled a b c count finish last statuses.ReadFault q is closes =
+    finished_text allows taken filled a b c count finish statuses.ReadFault q (line_closes statuses.ReadFault a b c _ last _ is q.events.wrote closes)
+by_status allows taken filled a b c count finish last statuses.TooLarge q is closes =
+    finished_text allows taken filled a b c count finish statuses.TooLarge q (line_closes statuses.TooLarge a b c _ last _ is q.events.wrote closes)
+by_status allows taken filled a b c count finish last statuses.WriteFault q is closes =
+    finished_text allows taken filled a b c count finish statuses.WriteFault q (part_behind a b c _ last _ is q.events.wrote closes, tt)
+by_status allows taken filled a b c count finish last statuses.Memory q is closes =
+    unclosed_text allows taken filled (played (read false taken)) a b c count finish refl q closes
+
+pub closed_text : (allows : RankFacts → ℕ → Type 0) (taken : List ℕ) (filled : Filled) (whole : Playing) (a b c : Option (List ℕ)) (count : ℕ) (finish : Finish) (last : LastLine)
+    (status : Status) → whole ≡ played (read false taken) → Plays allows whole a b (playeds.Ended count finish) → Some last ≡ closing_of count finish filled
+    → Closes last b c status → ReplaysText allows taken filled a c status
+closed_text allows taken filled whole a b c count finish last status is p line closes =
+    let q : Plays allows (played (read false taken)) a b (playeds.Ended count finish) = subst (λ (r : Playing). Plays allows r a b (playeds.Ended count finish)) is p in
+    by_status allows taken filled a b c count finish last status q (line ∙ ap (λ n. closing_of n finish filled) q.events.counts) closes
 
 -- a text under a header that the program can't do yet
 pub plays_unbuilt : (allows : RankFacts → ℕ → Type 0) (text rest : Read) (header : Header) (line : ℕ) (a : Option (List ℕ)) →

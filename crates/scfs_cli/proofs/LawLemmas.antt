@@ -10,7 +10,7 @@ use Rattle.scfs_model.proofs.LayerLemmas.{sound_runs}
 use Rattle.scfs_world.specs.Blocks.{NoClash}
 use Rattle.scfs_world.proofs.HeldReads.{reads_are_held}
 use Rattle.scfs_world.proofs.SoundHistories.{sound_without_clash}
-use Rattle.scfs_cli.specs.Happening.{IsPlayed}
+use Rattle.scfs_world.specs.Happening.{IsPlayed}
 
 -- what was read in a played history is what sessions hold
 pub reads_held : (allows : RankFacts → ℕ → Type 0) (header : Header) (past : History) → IsPlayed allows header past → ReadsHeld (under header) past

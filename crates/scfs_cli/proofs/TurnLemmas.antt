@@ -13,7 +13,7 @@ use Rattle.scfs_world.specs.State.{WorldState}
 use Rattle.scfs_cli.specs.declared.closing.Finish.{Finish}
 use Rattle.scfs_cli.specs.declared.play.Turn.{Turn}
 use Rattle.scfs_cli.specs.declared.play.Turn.TheVariants as turns
-use Rattle.scfs_cli.specs.Edges.{GetsFront}
+use Rattle.scfs_cli.specs.Edges.{GetsPart}
 use Rattle.scfs_cli.specs.Plays.{Turns, IsDone, entry_text}
 use Rattle.scfs_cli.proofs.EdgeLemmas.{puts_nothing}
 
@@ -28,7 +28,7 @@ pub record Wrote (world : WorldState) (lines : List Line) (before after : Option
   pub done : (next : WorldState) → turn ≡ turns.Done next → (next ≡ world) × Puts before after (flat_map (numbered world.events) lines)
   pub goes_on : (finish : Finish) → turn ≡ turns.Finished finish → ⊥
   pub small : turn ≡ turns.TooLarge → ⊥
-  pub front : turn ≡ turns.WriteFault → GetsFront before after (flat_map (numbered world.events) lines)
+  pub front : turn ≡ turns.WriteFault → GetsPart before after (flat_map (numbered world.events) lines)
   pub nothing : turn ≡ turns.Memory → after ≡ before
 
 same_text : (allows : RankFacts → ℕ → Type 0) (header : Header) (past : History) (event : Event) (world : WorldState) (lines : List Line) (did : Did allows header past event world lines) →
@@ -46,6 +46,6 @@ written_turn allows header past event world lines before after (turns.Done next)
 written_turn allows header past event world lines before after (turns.Finished finish) did wrote = absurd (wrote.goes_on finish refl)
 written_turn allows header past event world lines before after turns.TooLarge did wrote = absurd (wrote.small refl)
 written_turn allows header past event world lines before after turns.WriteFault did wrote =
-    (did.done, subst (λ t. GetsFront before after t) (same_text allows header past event world lines did) (wrote.front refl))
+    (did.done, subst (λ t. GetsPart before after t) (same_text allows header past event world lines did) (wrote.front refl))
 written_turn allows header past event world lines before after turns.Memory did wrote =
     subst (λ (o : Option (List ℕ)). Puts before o []) (sym (wrote.nothing refl)) (puts_nothing before)

@@ -14,6 +14,14 @@ pub record GetsFront (before after : Option (List ℕ)) (text : List ℕ) : Type
   pub whole : text ≡ front ++ back
   pub puts : Puts before after front
 
+-- where a sink tells, it got a front of this text, and not all of it
+pub record GetsPart (before after : Option (List ℕ)) (text : List ℕ) : Type 0 where
+  pub front : List ℕ
+  pub back : List ℕ
+  pub whole : text ≡ front ++ back
+  pub more : back ≢ []
+  pub puts : Puts before after front
+
 -- a reader was fed the bytes that were taken from a source, and still gives what it gave with them behind
 pub record Feeds (old new : Reading) (taken : List ℕ) : Type 0 where
   pub fed : (more : List ℕ) → gives old (taken ++ more) ≡ gives new more

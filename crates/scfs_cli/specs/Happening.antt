@@ -5,24 +5,12 @@ use Rattle.scfs_schedule.specs.declared.types.Event.{Event}
 use Rattle.scfs_schedule.specs.declared.types.Header.{Header}
 use Rattle.scfs_model.specs.Due.{actual}
 use Rattle.scfs_model.specs.History.{History, events_then}
-use Rattle.scfs_model.specs.Run.{Answers, Happens, IsRanked, facts_asked}
+use Rattle.scfs_model.specs.Run.{Answers, facts_asked}
 use Rattle.scfs_model.specs.UnitFormat.{under}
-use Rattle.scfs_world.specs.Clouds.{net, IsServed}
-use Rattle.scfs_world.specs.Laws.{AreEvents}
 use Rattle.scfs_world.specs.Standing.{carried_after}
 use Rattle.scfs_cli.specs.declared.closing.Finish.{Finish}
 use Rattle.scfs_cli.specs.declared.closing.Finish.TheVariants as finishes
 use Rattle.scfs_cli.specs.Playing.{Playing}
-
--- A history that was played under a header, where the rank rule may answer so: the lines of each event are those that agents, space
--- and clouds make of it; its message is that of the cloud's queue; the rule gave the answers; its events are of the header and bring
--- bytes; and the bytes that were carried in all keep their limit.
-pub record IsPlayed (allows : RankFacts → ℕ → Type 0) (header : Header) (past : History) : Type 0 where
-  pub happens : Happens (under header) past
-  pub served : IsServed (under header) past
-  pub ranked : IsRanked (under header) allows past
-  pub events : AreEvents header past
-  pub carried : (net (under header) past).carried ≤ CARRIED_LIMIT
 
 -- the next event would carry more bytes than the limit, where the rank rule may answer so
 abbrev pub IsTooLargeNext : (allows : RankFacts → ℕ → Type 0) → Header → History → Event → Type 0

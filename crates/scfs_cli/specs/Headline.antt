@@ -11,27 +11,28 @@ use Rattle.scfs_model.specs.Run.{Run}
 use Rattle.scfs_model.specs.UnitFormat.{under}
 use Rattle.scfs_world.specs.Blocks.{NoClash}
 use Rattle.scfs_cli.specs.declared.closing.Finish.{Finish}
-use Rattle.scfs_cli.specs.Happening.{EndsWith, IsPlayed}
+use Rattle.scfs_world.specs.Happening.{IsPlayed}
+use Rattle.scfs_cli.specs.Happening.{EndsWith}
 use Rattle.scfs_cli.specs.declared.closing.Filled.{Filled}
 use Rattle.scfs_cli.specs.declared.closing.Filled.TheVariants as filleds
 use Rattle.scfs_cli.specs.declared.closing.LastLine.{LastLine}
 use Rattle.scfs_cli.specs.declared.closing.Status.{Status}
 use Rattle.scfs_cli.specs.declared.closing.Status.TheVariants as statuses
-use Rattle.scfs_cli.specs.Closing.{closing_of, closing_text, closing_status}
-use Rattle.scfs_cli.specs.Edges.{GetsFront}
+use Rattle.scfs_cli.specs.Closing.{closing_of, closing_text, closing_status, last_line_text, status_of}
+use Rattle.scfs_cli.specs.Edges.{GetsFront, GetsPart}
 use Rattle.scfs_cli.specs.Playing.{played}
 
--- out got this text; where writing failed or memory was wanting, a front of it
+-- out got this text; where writing failed, not all of it; where memory was wanting, a front of it
 abbrev pub GetsText : Status → Option (List ℕ) → Option (List ℕ) → List ℕ → Type 0
 GetsText statuses.Done before after text = Puts before after text
 GetsText statuses.Usage before after text = Puts before after text
 GetsText statuses.BadInput before after text = Puts before after text
 GetsText statuses.ReadFault before after text = Puts before after text
 GetsText statuses.TooLarge before after text = Puts before after text
-GetsText statuses.WriteFault before after text = GetsFront before after text
+GetsText statuses.WriteFault before after text = GetsPart before after text
 GetsText statuses.Memory before after text = GetsFront before after text
 
--- the status is that of the last line, but where writing failed or memory was wanting
+-- the status is that of the last line, but where writing failed; where memory was wanting there is no last line
 abbrev pub IsStatus : Status → Option LastLine → Type 0
 IsStatus statuses.Done closing = statuses.Done ≡ closing_status closing
 IsStatus statuses.Usage closing = statuses.Usage ≡ closing_status closing
@@ -39,7 +40,7 @@ IsStatus statuses.BadInput closing = statuses.BadInput ≡ closing_status closin
 IsStatus statuses.ReadFault closing = statuses.ReadFault ≡ closing_status closing
 IsStatus statuses.TooLarge closing = statuses.TooLarge ≡ closing_status closing
 IsStatus statuses.WriteFault closing = Unit {0}
-IsStatus statuses.Memory closing = Unit {0}
+IsStatus statuses.Memory closing = closing ≡ None
 
 -- the words of the one command: `replay` alone
 abbrev pub is_replay : List (List ℕ) → Bool
@@ -47,11 +48,18 @@ is_replay [] = false
 is_replay (word ∷ []) = bytes_eq word (codes "replay")
 is_replay (word ∷ next ∷ rest) = false
 
--- the last line was written and gives the status, or writing it failed, or memory was wanting
-abbrev pub Closes : Option LastLine → Option (List ℕ) → Option (List ℕ) → Status → Type 0
-Closes closing before after status = GetsText status before after (closing_text closing) × IsStatus status closing
+-- the last line was written and gives the status; or writing it failed, and not all of it was written; or memory was wanting, and
+-- nothing of it was
+abbrev pub Closes : LastLine → Option (List ℕ) → Option (List ℕ) → Status → Type 0
+Closes last before after statuses.Done = Puts before after (last_line_text last) × (statuses.Done ≡ status_of last)
+Closes last before after statuses.Usage = Puts before after (last_line_text last) × (statuses.Usage ≡ status_of last)
+Closes last before after statuses.BadInput = Puts before after (last_line_text last) × (statuses.BadInput ≡ status_of last)
+Closes last before after statuses.ReadFault = Puts before after (last_line_text last) × (statuses.ReadFault ≡ status_of last)
+Closes last before after statuses.TooLarge = Puts before after (last_line_text last) × (statuses.TooLarge ≡ status_of last)
+Closes last before after statuses.WriteFault = GetsPart before after (last_line_text last)
+Closes last before after statuses.Memory = Puts before after []
 
--- the last line after a history of so many events; none where playing had no finish
+-- the last line after a history of so many events; none where playing had no finish, or memory was wanting for the last line
 abbrev pub last_line : ℕ → Option Finish → Filled → Option LastLine
 last_line count None filled = None
 last_line count (Some finish) filled = closing_of count finish filled

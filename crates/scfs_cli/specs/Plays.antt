@@ -21,8 +21,9 @@ use Rattle.scfs_cli.specs.declared.play.Played.TheVariants as playeds
 use Rattle.scfs_cli.specs.declared.play.Turn.{Turn}
 use Rattle.scfs_cli.specs.declared.play.Turn.TheVariants as turns
 use Rattle.scfs_cli.specs.declared.closing.Finish.{Finish}
-use Rattle.scfs_cli.specs.Edges.{GetsFront}
-use Rattle.scfs_cli.specs.Happening.{IsPlayed, IsTooLargeNext, EndsWith}
+use Rattle.scfs_cli.specs.Edges.{GetsFront, GetsPart}
+use Rattle.scfs_world.specs.Happening.{IsPlayed}
+use Rattle.scfs_cli.specs.Happening.{IsTooLargeNext, EndsWith}
 use Rattle.scfs_cli.specs.Playing.{Playing, header_lines}
 
 -- the beginning of a text: its header, and what follows; or its ending where there is none
@@ -52,7 +53,7 @@ abbrev pub entry_of : {allows : RankFacts → ℕ → Type 0} → (header : Head
 entry_of header past event done = entry_after (under header) past event done.ranks
 
 -- one event's turn: the world stands for the history with it, and its lines were written; or it ended what is played, and
--- nothing was; or it would carry too many bytes; or a front of its lines was written, or nothing
+-- nothing was; or it would carry too many bytes; or not all of its lines were written, or nothing
 abbrev pub Turns : (allows : RankFacts → ℕ → Type 0) → Header → History → Event → Option (List ℕ) → Option (List ℕ) → Turn → Type 0
 Turns allows header past event before after (turns.Done world) =
     (done : IsDone allows header past event) × Stands world header (entry_of header past event done ∷ past)
@@ -60,13 +61,14 @@ Turns allows header past event before after (turns.Done world) =
 Turns allows header past event before after (turns.Finished finish) = Puts before after []
 Turns allows header past event before after turns.TooLarge = IsTooLargeNext allows header past event × Puts before after []
 Turns allows header past event before after turns.WriteFault =
-    (done : IsDone allows header past event) × GetsFront before after (entry_text past (entry_of header past event done))
+    (done : IsDone allows header past event) × GetsPart before after (entry_text past (entry_of header past event done))
 Turns allows header past event before after turns.Memory = Puts before after []
 
--- what was written of a history's transcript: all of it where playing came to its finish, else a front
+-- what was written of a history's transcript: all of it where playing came to its finish, not all where writing failed, and a
+-- front, maybe all of it, where memory was wanting
 abbrev pub WroteBy : Played → History → Option (List ℕ) → Option (List ℕ) → Type 0
 WroteBy (playeds.Ended count finish) past before after = Puts before after (transcript past)
-WroteBy playeds.WriteFault past before after = GetsFront before after (transcript past)
+WroteBy playeds.WriteFault past before after = GetsPart before after (transcript past)
 WroteBy playeds.Memory past before after = GetsFront before after (transcript past)
 
 -- how playing ended: with a finish after so many events, or with none

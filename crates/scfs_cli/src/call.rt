@@ -1,4 +1,4 @@
-ghost use Rattle.std.specs.Prelude.{◌≡◌, List, ℕ, [], Some, true, false, map, string_bytes};
+ghost use Rattle.std.specs.Prelude.{◌≡◌, List, ℕ, [], true, false, map, string_bytes};
 ghost use Rattle.scfs_base.specs.Outside.{Rose};
 ghost use Rattle.scfs_policy.specs.Rank.{IsRankRule};
 ghost use Rattle.scfs_schedule.specs.Reading.{IsAtEvents, gives, read};
@@ -16,7 +16,7 @@ use std::alloc::Global;
 
 /// Writes the last line, and gives its status.
 fn close<O: Sink>(alloc: Global, last: LastLine, out: &mut O) -> Status
-    ensures closes { Closes (Some last) (O.written out.old) (O.written out.new) result }
+    ensures closes { Closes last (O.written out.old) (O.written out.new) result }
     ensures fault { result ≡ Status.WriteFault → Rose (O.faults out.old) (O.faults out.new) }
 {
     let Ok(text) = last.text(alloc) else {
@@ -38,7 +38,8 @@ fn finish<O: Sink, R: Fn(RankFacts) -> u64>(
 ) -> Status
     requires place { (header : Header) → ¬ IsAtEvents reader.old header }
     requires rank { IsRankRule (R.pre rank.now) }
-    ensures replays { (taken : List ℕ) → gives reader.old [] ≡ read false taken → ReplaysText (R.post rank.now) taken filled (O.written out.old) (O.written out.new) result }
+    ensures replays { (taken : List ℕ) → gives reader.old [] ≡ read false taken →
+        ReplaysText (R.post rank.now) taken filled (O.written out.old) (O.written out.new) result }
     ensures fault { result ≡ Status.WriteFault → Rose (O.faults out.old) (O.faults out.new) }
 {
     match play(alloc, reader, rank, out) {
@@ -82,7 +83,7 @@ pub fn scfs<I: Source, O: Sink, R: Fn(RankFacts) -> u64>(
 ) -> Status
     requires { IsRankRule (R.pre rank.now) }
     ensures usage { is_replay (map string_bytes words.now) ≡ false →
-        Closes (Some LastLine.Usage) (O.written out.old) (O.written out.new) result × (input.new ≡ input.old) }
+        Closes LastLine.Usage (O.written out.old) (O.written out.new) result × (input.new ≡ input.old) }
     ensures usage_only { result ≡ Status.Usage → is_replay (map string_bytes words.now) ≡ false }
     ensures replays { is_replay (map string_bytes words.now) ≡ true →
         ReplaysInput (R.post rank.now) (I.left input.old) (I.left input.new) (O.written out.old) (O.written out.new)

@@ -1,7 +1,7 @@
 ghost use Rattle.std.specs.Prelude.{◌≡◌, ◌+◌, ◌<◌, ◌≤◌, List, ℕ, [], ◌∷◌, IfOk, OnOk, true, Some, None};
 ghost use Rattle.std.specs.List.{flat_map};
 ghost use Rattle.scfs_base.specs.Outside.{Puts, Rose};
-ghost use Rattle.scfs_cli.specs.Edges.{GetsFront};
+ghost use Rattle.scfs_cli.specs.Edges.{GetsPart};
 ghost use Rattle.scfs_policy.specs.Rank.{IsRankRule};
 ghost use Rattle.scfs_schedule.specs.Grammar.{IsEvent, IsHeader};
 ghost use Rattle.scfs_schedule.specs.Reading.{IsAtEvents, IsDrained, gives};
@@ -93,7 +93,8 @@ fn write_lines<O: Sink>(alloc: Global, stepped: Stepped, out: &mut O) -> Turn
         (next ≡ stepped.world) × Puts (O.written out.old) (O.written out.new) (flat_map (numbered stepped.world.events) stepped.lines) }
     ensures goes_on { (finish : Finish) → result ≡ Turn.Finished finish → ⊥ }
     ensures small { result ≡ Turn.TooLarge → ⊥ }
-    ensures front { result ≡ Turn.WriteFault → GetsFront (O.written out.old) (O.written out.new) (flat_map (numbered stepped.world.events) stepped.lines) }
+    ensures front { result ≡ Turn.WriteFault →
+        GetsPart (O.written out.old) (O.written out.new) (flat_map (numbered stepped.world.events) stepped.lines) }
     ensures nothing { result ≡ Turn.Memory → O.written out.new ≡ O.written out.old }
     ensures fault { result ≡ Turn.WriteFault → Rose (O.faults out.old) (O.faults out.new) }
     ensures later { O.faults out.old ≤ O.faults out.new }

@@ -9,7 +9,7 @@ use Rattle.scfs_model.specs.History.{transcript}
 use Rattle.scfs_cli.specs.Playing.{events_played, finish_at}
 use Rattle.scfs_cli.specs.Plays.{GoesOn, Turns, entry_of, entry_text}
 use Rattle.scfs_cli.specs.declared.play.Turn.{Turn}
-use Rattle.scfs_cli.proofs.EdgeLemmas.{front_of_all, puts_more, puts_nothing, puts_then, then_front}
+use Rattle.scfs_cli.proofs.EdgeLemmas.{front_of_all, puts_more, puts_nothing, puts_then, then_part}
 use Rattle.scfs_cli.proofs.HistoryLemmas.{plays_fault, plays_memory, plays_finish, plays_large, with_past, played_on_with, played_part, same_header, played_whole, played_until, played_next, played_on, played_nothing}
 use Rattle.scfs_cli.proofs.play.play_events.Goals as goal
 
@@ -145,7 +145,7 @@ returns-in-WriteFault-clause-plays g c =
     plays_fault _ header (entry ∷ i.past) (events_played line 0 whole.events whole.ending) _ (written c.args.out.now) (written c.play_event.new.out) c.requires.header
     (played_on _ header i.past event turn.0 i.plays is_event c.play_event.ensures.brings)
     (played_next line i.past whole rest (gives c.next_event.new.reader []) event entry i.played i.reads goes.6 plays refl)
-    (then_front (written c.args.out.now) (written c.events.out) (written c.play_event.new.out) (transcript i.past) (entry_text i.past entry) i.wrote turn.1)
+    (then_part (written c.args.out.now) (written c.events.out) (written c.play_event.new.out) (transcript i.past) (entry_text i.past entry) i.wrote turn.1)
 
 pub returns-in-Memory-clause-plays : goal.returns-in-Memory-clause-plays
 returns-in-Memory-clause-plays g c =

@@ -4,7 +4,7 @@ use Rattle.scfs_schedule.specs.Reading.{IsAtEvents, gives}
 use Rattle.scfs_model.specs.History.{History, transcript}
 use Rattle.scfs_world.specs.Standing.{Stands}
 use Rattle.scfs_world.specs.Worlds.{IsWorld}
-use Rattle.scfs_cli.specs.Happening.{IsPlayed}
+use Rattle.scfs_world.specs.Happening.{IsPlayed}
 use Rattle.scfs_cli.specs.declared.limits.TheConstants.{EVENTS_LIMIT}
 use Rattle.scfs_cli.proofs.HistoryLemmas.{with_past, AllPlayed}
 use Rattle.scfs_cli.proofs.play.play_events.Given as goal
