@@ -49,6 +49,21 @@ fn drop_front(text: &mut Vec<u8>, count: usize)
     text.truncate(left);
 }
 
+/// Drops the first `at` bytes, which have left, once they are at least as many as the others, so that each byte is moved at
+/// most once on average. Gives how many of what have left still stand before the others.
+fn forget(text: &mut Vec<u8>, at: usize) -> usize
+    requires { at ≤ length text.old.items }
+    ensures same { drop result text.new.items ≡ drop at text.old.items }
+    ensures few { result + result ≤ length text.new.items }
+    ensures late { at + at < length text.old.items → text.new.items ≡ text.old.items }
+{
+    if at < text.len() - at {
+        return at;
+    }
+    drop_front(text, at);
+    0
+}
+
 /// The length of the first line, of which the first `clear` bytes are known to hold no line.
 fn first_line(held: &[u8], clear: usize) -> Option<usize>
     requires within { clear ≤ length held.now }
@@ -77,22 +92,12 @@ impl Held {
         }
     }
 
-    /// Drops what has left, once it is at least as much as what is held, so that each byte is moved at most once on average.
-    fn forget(&mut self)
-        ensures { self.new ≡ self.old }
-    {
-        if self.at >= self.text.len() - self.at {
-            drop_front(&mut self.text, self.at);
-            self.at = 0;
-        }
-    }
-
     /// Takes a piece, or the front of it for which there is room. An error takes nothing.
     pub fn take(&mut self, piece: &[u8]) -> Result<(), Memory>
         ensures ok { OnOk result (self.new ≡ with_piece self.old piece.now) }
         ensures err { OnErr result (self.new ≡ self.old) }
     {
-        self.forget();
+        self.at = forget(&mut self.text, self.at);
         self.push(piece)
     }
 
