@@ -57,13 +57,14 @@ lines_of splitting more =
     unless_passed splitting.passed
     (split_lines (splitting.longer || nat_lt splitting.room (length more)) splitting.which (pieces 10 (splitting.rest ++ take splitting.room more)))
 
--- an answer is the next of the lines that were still given: a line, none as long as nothing more is fed, or the limit that was passed
+-- an answer is the next of the lines that were still given: a line, none as long as nothing more is fed, or the limit that was passed;
+-- want of memory leaves everything as it was
 abbrev pub GivesLine : Result (Option (List ℕ)) Stop → Splitting → Splitting → Type 0
 GivesLine (Ok (Some line)) old new =
     (old.passed ≡ None) × (new.passed ≡ None) × (new.number ≡ old.number + 1) × (length line ≤ LINE_LIMIT)
     × (length new.rest < length old.rest) × ((more : List ℕ) → lines_of old more ≡ with_line line (lines_of new more))
 GivesLine (Ok None) old new = (old.passed ≡ None) × (new ≡ old) × (lines_of old [] ≡ no_lines None) × (length old.rest ≤ LINE_LIMIT)
-GivesLine (Err stops.Memory) old new = Unit {0}
+GivesLine (Err stops.Memory) old new = (new ≡ old)
 GivesLine (Err (stops.Bad bad)) old new = ⊥
 GivesLine (Err (stops.TooLarge which)) old new =
     (new ≡ record old { passed = Some which }) × ((more : List ℕ) → lines_of old more ≡ no_lines (Some which))

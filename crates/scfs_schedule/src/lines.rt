@@ -1,4 +1,4 @@
-ghost use Rattle.std.specs.Prelude.{◌≡◌, ℕ, ◌+◌, ◌<◌, List, ◌++◌, length, take, drop, Some, IfOk, OnOk};
+ghost use Rattle.std.specs.Prelude.{◌≡◌, ℕ, ◌+◌, ◌<◌, List, ◌++◌, length, take, drop, Some, IfOk, OnErr, OnOk};
 ghost use Rattle.scfs_schedule.specs.Holding.{is_unfinished};
 ghost use Rattle.scfs_schedule.specs.Splitting.{unsplit, lines_of, GivesLine};
 
@@ -51,17 +51,18 @@ impl Lines {
         }
     }
 
-    /// Takes the next piece of the text, or the front of it for which there is room.
+    /// Takes the next piece of the text, or the front of it for which there is room. An error takes nothing.
     pub fn feed(&mut self, piece: &[u8]) -> Result<(), Memory>
         ensures takes { OnOk result ((more : List ℕ) → lines_of self.old (piece.now ++ more) ≡ lines_of self.new more) }
         ensures number { OnOk result (self.new.number ≡ self.old.number) }
         ensures passed { OnOk result (self.new.passed ≡ self.old.passed) }
+        ensures error { OnErr result (self.new ≡ self.old) }
     {
         self.held.take(piece)
     }
 
     /// The next whole line; `Ok(None)` where none is left. Where a line or the whole text passes its limit, `TooLarge` of it,
-    /// and from then on the same again.
+    /// and from then on the same again; `Memory` leaves everything as it was.
     pub fn next(&mut self) -> Result<Option<Bytes>, Stop>
         ensures { GivesLine result self.old self.new }
     {
@@ -89,6 +90,7 @@ impl Lines {
         requires { count < length self.old.rest }
         ensures line { IfOk result (λ line. line ≡ take count self.old.rest) }
         ensures after { OnOk result (self.new ≡ record self.old { number = self.old.number + 1; rest = drop (count + 1) self.old.rest }) }
+        ensures error { OnErr result (self.new ≡ self.old) }
     {
         let line = Bytes::from_slice(self.alloc, self.held.front(count))?;
         self.held.drop_line(count);

@@ -1,4 +1,4 @@
-ghost use Rattle.std.specs.Prelude.{◌≡◌, ℕ, ◌+◌, ◌<◌, ◌≤◌, List, [], ◌++◌, length, Some, None, IfOk, IfErr, OnOk, IsSome};
+ghost use Rattle.std.specs.Prelude.{◌≡◌, ℕ, ◌+◌, ◌<◌, ◌≤◌, List, [], ◌++◌, length, Some, None, IfOk, IfErr, OnErr, OnOk, IsSome};
 ghost use Rattle.scfs_schedule.specs.Holding.{HoldsNoLine};
 ghost use Rattle.scfs_schedule.specs.Lines.{EndsBehindHeader, Finds, Goes};
 ghost use Rattle.scfs_schedule.specs.Places.{IsBehind, IsPlace};
@@ -59,7 +59,8 @@ impl Reader {
         }
     }
 
-    /// Takes the next piece of the text, or the front of it for which there is room. After an ending it takes nothing.
+    /// Takes the next piece of the text, or the front of it for which there is room. After an ending, or with an error,
+    /// it takes nothing.
     pub fn feed(&mut self, piece: &[u8]) -> Result<(), Stop>
         ensures takes { OnOk result ((more : List ℕ) → gives self.old (piece.now ++ more) ≡ gives self.new more) }
         ensures place { OnOk result (self.new.place ≡ self.old.place) }
@@ -68,6 +69,7 @@ impl Reader {
         ensures held { OnOk result (length self.new.rest ≤ length self.old.rest + length piece.now) }
         ensures ended { IsSome self.old.ending → (result ≡ Ok tt) × (self.new ≡ self.old) }
         ensures memory { IfErr result (λ stop. stop ≡ Stop.Memory) }
+        ensures error { OnErr result (self.new ≡ self.old) }
     {
         if self.ending.is_some() {
             return Ok(());
@@ -190,7 +192,8 @@ impl Reader {
         Ok(None)
     }
 
-    /// The next item; `Ok(None)` where the bytes fed hold no further line. A stop is given again at each further call.
+    /// The next item; `Ok(None)` where the bytes fed hold no further line. A stop is given again at each further call;
+    /// after want of memory a reader is only to be dropped.
     pub fn next(&mut self) -> Result<Option<Item>, Stop>
         ensures { Gives result self.old self.new }
     {
