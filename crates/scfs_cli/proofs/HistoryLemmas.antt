@@ -5,11 +5,13 @@ use Rattle.scfs_policy.specs.declared.rank.RankFacts.{RankFacts}
 use Rattle.scfs_schedule.specs.declared.types.Event.{Event}
 use Rattle.scfs_schedule.specs.declared.types.Header.{Header}
 use Rattle.scfs_schedule.specs.declared.types.Ending.{Ending}
-use Rattle.scfs_schedule.specs.Grammar.{IsEvent, IsHeader}
 use Rattle.scfs_schedule.specs.Reading.{Reading, IsAtEvents, Read, read, stopped, with_event, with_header}
 use Rattle.scfs_model.specs.Built.{is_built_header}
+use Rattle.scfs_model.specs.Held.{ReadsHeld}
 use Rattle.scfs_model.specs.History.{Entry, History, events_then, transcript}
-use Rattle.scfs_world.specs.Laws.{BringsBytes}
+use Rattle.scfs_model.specs.Run.{Run}
+use Rattle.scfs_model.specs.UnitFormat.{under}
+use Rattle.scfs_world.specs.Blocks.{NoClash}
 use Rattle.scfs_cli.specs.declared.play.Played.{Played}
 use Rattle.scfs_cli.specs.declared.play.Played.TheVariants as playeds
 use Rattle.scfs_cli.specs.declared.closing.Filled.{Filled}
@@ -22,12 +24,12 @@ use Rattle.scfs_cli.specs.declared.closing.LastLine.{LastLine}
 use Rattle.scfs_cli.specs.Closing.{closing_of, closing_text, closing_status, last_line_text, status_of}
 use Rattle.scfs_cli.specs.Edges.{GetsFront, GetsPart}
 use Rattle.scfs_world.specs.Happening.{IsPlayed}
-use Rattle.scfs_cli.specs.Happening.{IsTooLargeNext, EndsWith}
+use Rattle.scfs_world.specs.Laws.{NoClashBefore, ReadsAreHeld}
+use Rattle.scfs_cli.specs.Finishing.{IsTooLargeNext, EndsWith}
 use Rattle.scfs_cli.specs.Headline.{Closes, GetsText, IsStatus, ReplaysText}
 use Rattle.scfs_cli.proofs.ClosingLemmas.{line_behind, part_behind, status_behind}
-use Rattle.scfs_cli.specs.Plays.{Plays, PlaysEvents, IsDone, entry_of}
+use Rattle.scfs_cli.specs.Plays.{Plays, PlaysEvents, IsNext}
 use Rattle.scfs_cli.proofs.EdgeLemmas.{front_of_more, front_of_nothing, front_then, part_then, puts_more, puts_nothing}
-use Rattle.scfs_cli.proofs.LawLemmas.{reads_held, runs_without}
 
 -- what a text says, with a history's events in front
 abbrev pub with_past : History → Read → Read
@@ -99,32 +101,39 @@ played_on_with line past whole rest after event all is goes plays =
 pub same_header : (reader : Reading) (one other : Header) → IsAtEvents reader one → IsAtEvents reader other → one ≡ other
 same_header reader one other h k = let e = sym h ∙ k in cc
 
--- a played history with one event more is played
-pub played_on : (allows : RankFacts → ℕ → Type 0) (header : Header) (past : History) (event : Event) (done : IsDone allows header past event) →
-    IsPlayed allows header past → IsEvent header event → BringsBytes event → IsPlayed allows header (entry_of header past event done ∷ past)
-played_on allows header past event done p is brings =
-    record {
-      happens = (refl, p.happens);
-      served = (refl, p.served);
-      ranked = (done.answers, p.ranked);
-      events = (is, brings, p.events);
-      carried = done.carried;
-    }
+-- what is known of a history that was played: its reads are held, and where no two different blocks share a digest it is a run
+pub record Known (allows : RankFacts → ℕ → Type 0) (header : Header) (past : History) : Type 0 where
+  pub plays : IsPlayed allows header past
+  pub held : ReadsHeld (under header) past
+  pub run : NoClash header past → Run (under header) past
 
 -- before its first event
-pub played_nothing : (allows : RankFacts → ℕ → Type 0) (header : Header) → IsPlayed allows header []
-played_nothing allows header = record { happens = tt; served = tt; ranked = tt; events = tt; carried = omega arith }
+pub nothing_known : (allows : RankFacts → ℕ → Type 0) (header : Header) → Known allows header []
+nothing_known allows header = record {
+  plays = record { happens = tt; served = tt; ranked = tt; events = tt; carried = omega arith };
+  held = tt;
+  run = λ _. tt;
+}
+
+-- with one event more
+pub known_next : (allows : RankFacts → ℕ → Type 0) (header : Header) (past : History) (event : Event) (entry : Entry) → NoClashBefore → ReadsAreHeld →
+    Known allows header past → IsNext allows header past event entry → Known allows header (entry ∷ past)
+known_next allows header past event entry before held known next = record {
+  plays = next.plays;
+  held = held header (entry ∷ past) next.plays.happens;
+  run = λ apart. (next.permits apart, known.run (before header entry past apart));
+}
 
 -- playing that came to the finish of its text
 pub plays_finish : (allows : RankFacts → ℕ → Type 0) (header : Header) (past : History) (whole : Playing) (count : ℕ) (finish : Finish) (a b : Option (List ℕ)) →
-    IsHeader header → IsPlayed allows header past → whole ≡ after_past past (finished finish) → count ≡ length past → Puts a b (transcript past) →
+    Known allows header past → whole ≡ after_past past (finished finish) → count ≡ length past → Puts a b (transcript past) →
     PlaysEvents allows header whole a b (playeds.Ended count finish)
-plays_finish allows header past whole count finish a b is plays same counted puts =
+plays_finish allows header past whole count finish a b known same counted puts =
     record {
       past = past;
-      plays = plays;
-      held = reads_held allows header past plays;
-      run = runs_without allows header past is plays;
+      plays = known.plays;
+      held = known.held;
+      run = known.run;
       ends = inl (sym (ap (λ (r : Playing). r.events) same), sym (ap (λ (r : Playing). r.finish) same));
       counts = counted;
       wrote = puts;
@@ -132,40 +141,40 @@ plays_finish allows header past whole count finish a b is plays same counted put
 
 -- playing that came to an event that would carry too many bytes
 pub plays_large : (allows : RankFacts → ℕ → Type 0) (header : Header) (past : History) (whole rest : Playing) (event : Event) (count : ℕ) (a b : Option (List ℕ)) →
-    IsHeader header → IsPlayed allows header past → whole ≡ after_past past (before_event event rest) → IsTooLargeNext allows header past event →
+    Known allows header past → whole ≡ after_past past (before_event event rest) → IsTooLargeNext allows header past event →
     count ≡ length past → Puts a b (transcript past) → PlaysEvents allows header whole a b (playeds.Ended count finishes.Objects)
-plays_large allows header past whole rest event count a b is plays same large counted puts =
+plays_large allows header past whole rest event count a b known same large counted puts =
     record {
       past = past;
-      plays = plays;
-      held = reads_held allows header past plays;
-      run = runs_without allows header past is plays;
+      plays = known.plays;
+      held = known.held;
+      run = known.run;
       ends = inr (refl, (event, rest.events, sym (ap (λ (r : Playing). r.events) same), large));
       counts = counted;
       wrote = puts;
     }
 
 pub plays_fault : (allows : RankFacts → ℕ → Type 0) (header : Header) (past : History) (whole rest : Playing) (a b : Option (List ℕ)) →
-    IsHeader header → IsPlayed allows header past → whole ≡ after_past past rest → GetsPart a b (transcript past) → PlaysEvents allows header whole a b playeds.WriteFault
-plays_fault allows header past whole rest a b is plays same g =
+    Known allows header past → whole ≡ after_past past rest → GetsPart a b (transcript past) → PlaysEvents allows header whole a b playeds.WriteFault
+plays_fault allows header past whole rest a b known same g =
     record {
       past = past;
-      plays = plays;
-      held = reads_held allows header past plays;
-      run = runs_without allows header past is plays;
+      plays = known.plays;
+      held = known.held;
+      run = known.run;
       ends = (rest.events, sym (ap (λ (r : Playing). r.events) same));
       counts = tt;
       wrote = g;
     }
 
 pub plays_memory : (allows : RankFacts → ℕ → Type 0) (header : Header) (past : History) (whole rest : Playing) (a b : Option (List ℕ)) →
-    IsHeader header → IsPlayed allows header past → whole ≡ after_past past rest → GetsFront a b (transcript past) → PlaysEvents allows header whole a b playeds.Memory
-plays_memory allows header past whole rest a b is plays same g =
+    Known allows header past → whole ≡ after_past past rest → GetsFront a b (transcript past) → PlaysEvents allows header whole a b playeds.Memory
+plays_memory allows header past whole rest a b known same g =
     record {
       past = past;
-      plays = plays;
-      held = reads_held allows header past plays;
-      run = runs_without allows header past is plays;
+      plays = known.plays;
+      held = known.held;
+      run = known.run;
       ends = (rest.events, sym (ap (λ (r : Playing). r.events) same));
       counts = tt;
       wrote = g;
@@ -185,14 +194,15 @@ states (Some header) = refl
 pub plays_nothing : (allows : RankFacts → ℕ → Type 0) (whole : Playing) (a : Option (List ℕ)) → Plays allows whole a a playeds.Memory
 plays_nothing allows whole a =
     let header = header_or_first whole.header in
+    let none = nothing_known allows header in
     record {
       header = header;
       under = states whole.header;
       events = record {
         past = [];
-        plays = played_nothing allows header;
-        held = tt;
-        run = λ _. tt;
+        plays = none.plays;
+        held = none.held;
+        run = none.run;
         ends = (whole.events, refl);
         counts = tt;
         wrote = front_of_nothing a [];
@@ -203,14 +213,15 @@ plays_nothing allows whole a =
 pub plays_stop : (allows : RankFacts → ℕ → Type 0) (whole : Playing) (finish : Finish) (a : Option (List ℕ)) → whole ≡ finished finish → Plays allows whole a a (playeds.Ended 0 finish)
 plays_stop allows whole finish a is =
     let header = header_or_first whole.header in
+    let none = nothing_known allows header in
     record {
       header = header;
       under = states whole.header;
       events = record {
         past = [];
-        plays = played_nothing allows header;
-        held = tt;
-        run = λ _. tt;
+        plays = none.plays;
+        held = none.held;
+        run = none.run;
         ends = inl (sym (ap (λ (r : Playing). r.events) is), sym (ap (λ (r : Playing). r.finish) is));
         counts = refl;
         wrote = puts_nothing a;

@@ -1,4 +1,3 @@
-pub mod LawLemmas
 pub mod CallLemmas
 pub mod ClosingLemmas
 pub mod EdgeLemmas

@@ -12,7 +12,7 @@ use Rattle.scfs_model.specs.UnitFormat.{under}
 use Rattle.scfs_world.specs.Blocks.{NoClash}
 use Rattle.scfs_cli.specs.declared.closing.Finish.{Finish}
 use Rattle.scfs_world.specs.Happening.{IsPlayed}
-use Rattle.scfs_cli.specs.Happening.{EndsWith}
+use Rattle.scfs_cli.specs.Finishing.{EndsWith}
 use Rattle.scfs_cli.specs.declared.closing.Filled.{Filled}
 use Rattle.scfs_cli.specs.declared.closing.Filled.TheVariants as filleds
 use Rattle.scfs_cli.specs.declared.closing.LastLine.{LastLine}

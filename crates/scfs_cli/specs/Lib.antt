@@ -1,6 +1,6 @@
 pub mod Closing
 pub mod Edges
-pub mod Happening
+pub mod Finishing
 pub mod Headline
 pub mod Playing
 pub mod Plays

@@ -1,21 +1,19 @@
-use Rattle.std.specs.Prelude.{◌≡◌, ◌<◌, ◌≤◌, ℕ, ◌+◌, List, [], ◌∷◌, length, Option, Some, None, IfSome, Result, Ok, Err}
+use Rattle.std.specs.Prelude.{◌≡◌, ◌<◌, ℕ, ◌+◌, List, [], ◌∷◌, length, Option, Some, None, IfSome, Result, Ok, Err}
 use Rattle.std.specs.List.{flat_map}
 use Rattle.scfs_base.specs.Outside.{Puts}
 use Rattle.scfs_policy.specs.declared.rank.RankFacts.{RankFacts}
-use Rattle.scfs_net.specs.declared.messages.TheConstants.{CARRIED_LIMIT}
 use Rattle.scfs_schedule.specs.declared.types.Event.{Event}
 use Rattle.scfs_schedule.specs.declared.types.Header.{Header}
 use Rattle.scfs_schedule.specs.Reading.{Reading, IsAtEvents, gives, stopped, with_header, with_event}
 use Rattle.scfs_schedule.specs.Grammar.{IsHeader, IsEvent}
 use Rattle.scfs_schedule.specs.declared.types.Ending.{Ending}
 use Rattle.scfs_schedule.specs.Text.{numbered}
-use Rattle.scfs_model.specs.Due.{actual}
 use Rattle.scfs_model.specs.History.{Entry, History, transcript}
 use Rattle.scfs_model.specs.Held.{ReadsHeld}
-use Rattle.scfs_model.specs.Run.{Answers, Run, facts_asked}
+use Rattle.scfs_model.specs.Run.{Permits, Run}
 use Rattle.scfs_world.specs.Blocks.{NoClash}
 use Rattle.scfs_model.specs.UnitFormat.{under}
-use Rattle.scfs_world.specs.Standing.{Stands, entry_after, carried_after}
+use Rattle.scfs_world.specs.Standing.{Stands}
 use Rattle.scfs_cli.specs.declared.play.Played.{Played}
 use Rattle.scfs_cli.specs.declared.play.Played.TheVariants as playeds
 use Rattle.scfs_cli.specs.declared.play.Turn.{Turn}
@@ -23,7 +21,7 @@ use Rattle.scfs_cli.specs.declared.play.Turn.TheVariants as turns
 use Rattle.scfs_cli.specs.declared.closing.Finish.{Finish}
 use Rattle.scfs_cli.specs.Edges.{GetsFront, GetsPart}
 use Rattle.scfs_world.specs.Happening.{IsPlayed}
-use Rattle.scfs_cli.specs.Happening.{IsTooLargeNext, EndsWith}
+use Rattle.scfs_cli.specs.Finishing.{IsTooLargeNext, EndsWith}
 use Rattle.scfs_cli.specs.Playing.{Playing, header_lines}
 
 -- the beginning of a text: its header, and what follows; or its ending where there is none
@@ -43,25 +41,22 @@ GoesOn (Err ending) old new = gives old [] ≡ stopped ending
 abbrev pub entry_text : History → Entry → List ℕ
 entry_text past e = flat_map (numbered (length past + 1)) e.lines
 
--- an event is done after a history: the rank rule allows these answers, and the bytes carried keep their limit
-pub record IsDone (allows : RankFacts → ℕ → Type 0) (header : Header) (past : History) (event : Event) : Type 0 where
-  pub ranks : List ℕ
-  pub answers : Answers allows (facts_asked (under header) (actual (under header) past) event) ranks
-  pub carried : carried_after (under header) past event ranks ≤ CARRIED_LIMIT
+-- after a history that was played, an entry of this event that was played as well; where no two different blocks of it all share a
+-- digest, its lines are those that the file map demands
+pub record IsNext (allows : RankFacts → ℕ → Type 0) (header : Header) (past : History) (event : Event) (e : Entry) : Type 0 where
+  pub same : e.event ≡ event
+  pub plays : IsPlayed allows header (e ∷ past)
+  pub permits : NoClash header (e ∷ past) → Permits (under header) past e
 
-abbrev pub entry_of : {allows : RankFacts → ℕ → Type 0} → (header : Header) (past : History) (event : Event) → IsDone allows header past event → Entry
-entry_of header past event done = entry_after (under header) past event done.ranks
-
--- one event's turn: the world stands for the history with it, and its lines were written; or it ended what is played, and
+-- one event's turn: the world stands for the history with its entry, and the lines were written; or it ended what is played, and
 -- nothing was; or it would carry too many bytes; or not all of its lines were written, or nothing
 abbrev pub Turns : (allows : RankFacts → ℕ → Type 0) → Header → History → Event → Option (List ℕ) → Option (List ℕ) → Turn → Type 0
 Turns allows header past event before after (turns.Done world) =
-    (done : IsDone allows header past event) × Stands world header (entry_of header past event done ∷ past)
-    × Puts before after (entry_text past (entry_of header past event done))
+    (e : Entry) × IsNext allows header past event e × Stands world header (e ∷ past) × Puts before after (entry_text past e)
 Turns allows header past event before after (turns.Finished finish) = Puts before after []
 Turns allows header past event before after turns.TooLarge = IsTooLargeNext allows header past event × Puts before after []
 Turns allows header past event before after turns.WriteFault =
-    (done : IsDone allows header past event) × GetsPart before after (entry_text past (entry_of header past event done))
+    (e : Entry) × IsNext allows header past event e × GetsPart before after (entry_text past e)
 Turns allows header past event before after turns.Memory = Puts before after []
 
 -- what was written of a history's transcript: all of it where playing came to its finish, not all where writing failed, and a

@@ -3,13 +3,13 @@ ghost use Rattle.std.specs.List.{flat_map};
 ghost use Rattle.scfs_base.specs.Outside.{Puts, Rose};
 ghost use Rattle.scfs_cli.specs.Edges.{GetsPart};
 ghost use Rattle.scfs_policy.specs.Rank.{IsRankRule};
-ghost use Rattle.scfs_schedule.specs.Grammar.{IsEvent, IsHeader};
+ghost use Rattle.scfs_schedule.specs.Grammar.{IsEvent};
 ghost use Rattle.scfs_schedule.specs.Reading.{IsAtEvents, IsDrained, gives};
 ghost use Rattle.scfs_schedule.specs.Text.{numbered};
 ghost use Rattle.scfs_schedule.specs.declared.types.Header.{Header};
 ghost use Rattle.scfs_model.specs.Built.{is_built};
 ghost use Rattle.scfs_model.specs.History.{History};
-ghost use Rattle.scfs_world.specs.Laws.{BringsBytes};
+ghost use Rattle.scfs_world.specs.Happening.{IsPlayed};
 ghost use Rattle.scfs_world.specs.Standing.{Stands};
 ghost use Rattle.scfs_world.specs.State.{WorldState};
 ghost use Rattle.scfs_world.specs.Worlds.{IsWorld};
@@ -24,7 +24,7 @@ use crate::edges::write_all;
 use scfs_base::{Bytes, Failed, Memory, Sink};
 use scfs_policy::{RankFacts, RankRule};
 use scfs_schedule::{Ending, Event, Header, Item, Line, Reader, Stop, push_line};
-use scfs_world::{StepFault, Stepped, World, brings_bytes};
+use scfs_world::{StepFault, Stepped, World, no_clash_before, reads_are_held};
 use std::alloc::Global;
 
 /// How playing a schedule ended: it came to its finish after so many events, writing failed, or memory was wanting.
@@ -70,7 +70,7 @@ fn take_turn<O: Sink, R: Fn(RankFacts) -> u64>(
     requires built { is_built event.now ≡ true }
     requires room { world.events < EVENTS_LIMIT }
     requires rank { IsRankRule (R.pre rank.now) }
-    ensures turns { (header : Header) (past : History) → Stands world header past →
+    ensures turns { (header : Header) (past : History) → Stands world header past → IsPlayed (R.post rank.now) header past →
         Turns (R.post rank.now) header past event.now (O.written out.old) (O.written out.new) result }
     ensures done { (next : WorldState) → result ≡ Turn.Done next → (next.header ≡ world.header) × (next.events ≡ world.events + 1) }
     ensures world { (next : WorldState) → result ≡ Turn.Done next → IsWorld next }
@@ -110,37 +110,6 @@ fn write_lines<O: Sink>(alloc: Global, stepped: Stepped, out: &mut O) -> Turn
 }
 
 /// The turn of an event in the line of this number, unless it ends what is played.
-fn take_event<O: Sink, R: Fn(RankFacts) -> u64>(
-    alloc: Global,
-    line: u64,
-    world: World,
-    event: &Event,
-    rank: &RankRule<R>,
-    out: &mut O,
-) -> Turn
-    requires world { IsWorld world }
-    requires event { IsEvent world.header event.now }
-    requires room { world.events ≤ EVENTS_LIMIT }
-    requires rank { IsRankRule (R.pre rank.now) }
-    ensures turns { (header : Header) (past : History) → Stands world header past →
-        Turns (R.post rank.now) header past event.now (O.written out.old) (O.written out.new) result }
-    ensures finish { (finish : Finish) → result ≡ Turn.Finished finish →
-        (finish_at line world.events event.now ≡ Some finish) × (O.written out.new ≡ O.written out.old) }
-    ensures done { (next : WorldState) → result ≡ Turn.Done next →
-        (finish_at line world.events event.now ≡ None) × (next.header ≡ world.header) × (next.events ≡ world.events + 1) × (next.events ≤ EVENTS_LIMIT) }
-    ensures world { (next : WorldState) → result ≡ Turn.Done next → IsWorld next }
-    ensures too_large { result ≡ Turn.TooLarge → finish_at line world.events event.now ≡ None }
-    ensures begun { result ≡ Turn.WriteFault → finish_at line world.events event.now ≡ None }
-    ensures fault { result ≡ Turn.WriteFault → Rose (O.faults out.old) (O.faults out.new) }
-    ensures later { O.faults out.old ≤ O.faults out.new }
-{
-    match finish_at(line, world.events(), event) {
-        Some(finish) => Turn::Finished(finish),
-        None => take_turn(alloc, world, event, rank, out),
-    }
-}
-
-/// The same of an event that is then over.
 fn play_event<O: Sink, R: Fn(RankFacts) -> u64>(
     alloc: Global,
     line: u64,
@@ -153,7 +122,7 @@ fn play_event<O: Sink, R: Fn(RankFacts) -> u64>(
     requires event { IsEvent world.header event }
     requires room { world.events ≤ EVENTS_LIMIT }
     requires rank { IsRankRule (R.pre rank.now) }
-    ensures turns { (header : Header) (past : History) → Stands world header past →
+    ensures turns { (header : Header) (past : History) → Stands world header past → IsPlayed (R.post rank.now) header past →
         Turns (R.post rank.now) header past event (O.written out.old) (O.written out.new) result }
     ensures finish { (finish : Finish) → result ≡ Turn.Finished finish →
         (finish_at line world.events event ≡ Some finish) × (O.written out.new ≡ O.written out.old) }
@@ -162,12 +131,13 @@ fn play_event<O: Sink, R: Fn(RankFacts) -> u64>(
     ensures world { (next : WorldState) → result ≡ Turn.Done next → IsWorld next }
     ensures too_large { result ≡ Turn.TooLarge → finish_at line world.events event ≡ None }
     ensures begun { result ≡ Turn.WriteFault → finish_at line world.events event ≡ None }
-    ensures brings { BringsBytes event }
     ensures fault { result ≡ Turn.WriteFault → Rose (O.faults out.old) (O.faults out.new) }
     ensures later { O.faults out.old ≤ O.faults out.new }
 {
-    brings_bytes(&event);
-    take_event(alloc, line, world, &event, rank, out)
+    match finish_at(line, world.events(), &event) {
+        Some(finish) => Turn::Finished(finish),
+        None => take_turn(alloc, world, &event, rank, out),
+    }
 }
 
 /// How the text ends of which the reader gave all that it was fed.
@@ -205,7 +175,6 @@ fn play_events<O: Sink, R: Fn(RankFacts) -> u64>(
     out: &mut O,
 ) -> Played
     requires place { IsAtEvents reader.old world.header }
-    requires header { IsHeader world.header }
     requires stands { Stands world world.header [] }
     requires world { IsWorld world }
     requires events { world.events ≡ 0 }
@@ -216,6 +185,8 @@ fn play_events<O: Sink, R: Fn(RankFacts) -> u64>(
     ensures fault { result ≡ Played.WriteFault → Rose (O.faults out.old) (O.faults out.new) }
     ensures later { O.faults out.old ≤ O.faults out.new }
 {
+    no_clash_before();
+    reads_are_held();
     let mut world = world;
     'events: loop {
         let Ok(next) = next_event(reader) else {

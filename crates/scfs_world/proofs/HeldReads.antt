@@ -119,10 +119,10 @@ else_is_read : (holds : ℕ → ℕ → List ℕ) (event : Event) → HoldsElse 
 else_is_read holds event (lines.Data a h bytes) quiet = absurd (both_ways true quiet refl)
 else_is_read holds event other quiet = tt
 
-read_shows : (a h offset count : ℕ) (shown : List ℕ) (there : Option Session) (bytes : List ℕ)
+read_shows : (offset count : ℕ) (shown : List ℕ) (there : Option Session) (bytes : List ℕ)
     → ((y : Session) → there ≡ Some y → bytes_from y.contents offset count ≡ shown) → read_answer there offset count ≡ Ok bytes → bytes ≡ shown
-read_shows a h offset count shown None bytes same is = cc
-read_shows a h offset count shown (Some y) bytes same is = by (nat_lt CONTENTS_LIMIT count) is
+read_shows offset count shown None bytes same is = cc
+read_shows offset count shown (Some y) bytes same is = by (nat_lt CONTENTS_LIMIT count) is
   where
     by : (b : Bool) → (if b then Err refusals.TooLong else Ok (bytes_from y.contents offset count)) ≡ Ok bytes → bytes ≡ shown
     by true e = cc
@@ -134,7 +134,7 @@ call_shows holds F a (calls.Read h offset count) is = λ agent found bytes answe
   offset,
   count,
   refl,
-  read_shows a h offset count (bytes_from (holds a h) offset count) (session_of agent.sessions h) bytes
+  read_shows offset count (bytes_from (holds a h) offset count) (session_of agent.sessions h) bytes
       (λ y there. ap (λ contents. bytes_from contents offset count) (sym (held_found (holds a) agent.sessions h y there (is a agent found)))) answered,
 )
 call_shows holds F a other is = λ agent found. tt

@@ -4,9 +4,8 @@ use Rattle.scfs_schedule.specs.Reading.{IsAtEvents, gives}
 use Rattle.scfs_model.specs.History.{History, transcript}
 use Rattle.scfs_world.specs.Standing.{Stands}
 use Rattle.scfs_world.specs.Worlds.{IsWorld}
-use Rattle.scfs_world.specs.Happening.{IsPlayed}
 use Rattle.scfs_cli.specs.declared.limits.TheConstants.{EVENTS_LIMIT}
-use Rattle.scfs_cli.proofs.HistoryLemmas.{with_past, AllPlayed}
+use Rattle.scfs_cli.proofs.HistoryLemmas.{with_past, AllPlayed, Known}
 use Rattle.scfs_cli.proofs.play.play_events.Given as goal
 
 abbrev pub invariant-events : goal.invariant-events
@@ -15,7 +14,7 @@ invariant-events g l =
     record {
       past : History;
       stands : Stands l.world header past;
-      plays : IsPlayed (λ facts answer. g.R.Fn.post l.rank (facts, tt) answer) header past;
+      known : Known (λ facts answer. g.R.Fn.post l.rank (facts, tt) answer) header past;
       wrote : Puts (g.O.Sink.written l.initial.out) (g.O.Sink.written l.out) (transcript past);
       reads : gives l.initial.reader [] ≡ with_past past (gives l.reader []);
       place : IsAtEvents l.reader header;
