@@ -1,0 +1,7 @@
+mod ShortFormat
+mod Played
+mod FirstRow
+mod SharedFile
+mod LyingClouds
+mod Closes
+mod LocalCalls

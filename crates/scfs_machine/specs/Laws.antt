@@ -1,0 +1,49 @@
+use Rattle.std.specs.Prelude.{◌≡◌, ◌≤◌, ℕ, List, [], ◌∷◌, length, find, Bool, ◌&&◌, ◌==◌, if◌then◌else◌, None, Contains}
+use Rattle.std.specs.Str.{bytes_eq}
+use Rattle.scfs_base.specs.declared.naming.FileId.{FileId}
+use Rattle.scfs_gf256.specs.Polynomials.{AreBytes}
+use Rattle.scfs_schedule.specs.Grammar.{IsHeader, IsEvent}
+use Rattle.scfs_schedule.specs.declared.types.Call.{Call}
+use Rattle.scfs_schedule.specs.declared.types.Call.TheVariants as calls
+use Rattle.scfs_schedule.specs.declared.types.Event.{Event}
+use Rattle.scfs_schedule.specs.declared.types.Event.TheVariants as events
+use Rattle.scfs_schedule.specs.declared.types.Header.{Header}
+use Rattle.scfs_machine.specs.Names.{same_file}
+use Rattle.scfs_machine.specs.Format.{Setup}
+use Rattle.scfs_machine.specs.UnitFormat.{under}
+use Rattle.scfs_machine.specs.History.{Entry, History}
+use Rattle.scfs_machine.specs.Tree.{Node}
+use Rattle.scfs_machine.specs.Runs.{mapped, Happens, Run}
+use Rattle.scfs_machine.specs.Clouds.{IsServed}
+use Rattle.scfs_machine.specs.Blocks.{NoClash}
+use Rattle.scfs_machine.specs.Sound.{IsSound}
+
+-- what a call writes are bytes
+abbrev pub WritesBytes : Call → Type 0
+WritesBytes (calls.Write h offset new) = AreBytes new
+WritesBytes other = Unit {0}
+
+-- what the call writes that an event makes are bytes
+abbrev pub BringsBytes : Event → Type 0
+BringsBytes (events.Call a call) = WritesBytes call
+BringsBytes other = Unit {0}
+
+-- each event is one of agents and clouds of the header, and its call writes bytes
+abbrev pub AreEvents : Header → History → Type 0
+AreEvents header [] = Unit {0}
+AreEvents header (e ∷ past) = IsEvent header e.event × BringsBytes e.event × AreEvents header past
+
+-- where no two different blocks of a history share a digest, each open from the clouds got what was closed
+abbrev pub SoundWithoutClash : Type 0
+SoundWithoutClash =
+    (header : Header) (past : History) → IsHeader header → IsServed (under header) past → AreEvents header past → NoClash header past
+    → IsSound (under header) past
+
+-- whether a node has this name below this parent
+abbrev pub has_place : FileId → (name : List ℕ) → Node → Bool
+has_place parent name n = same_file n.parent parent && bytes_eq n.name name
+
+-- no two nodes have one name below one parent: none is found among those behind it
+abbrev pub NamesDiffer : List Node → Type 0
+NamesDiffer [] = Unit {0}
+NamesDiffer (n ∷ ns) = (find (has_place n.parent n.name) ns ≡ None) × NamesDiffer ns
