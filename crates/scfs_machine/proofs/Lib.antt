@@ -5,3 +5,14 @@ mod SharedFile
 mod LyingClouds
 mod Closes
 mod LocalCalls
+pub mod ListMaps
+pub mod AgentMaps
+pub mod OpenMaps
+pub mod CloseMaps
+pub mod SessionMaps
+pub mod StepMaps
+pub mod CallMaps
+pub mod ToldMaps
+pub mod ReactionMaps
+pub mod StateMaps
+pub mod TwoLayers
