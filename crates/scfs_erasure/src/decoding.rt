@@ -40,6 +40,6 @@ pub fn block_from(alloc: Global, f: u8, blocks: &[Block], number: u8) -> Result<
         block.bytes ≡ piece_of_rows f (size_of blocks.now) (rows_from f (size_of blocks.now) blocks.now) number) }
 {
     let row = combined_row(alloc, blocks, blocks[0].bytes.len(), number)?;
-    let bytes = Bytes::from_slice(alloc, &row)?;
+    let bytes = Bytes::from_vec(row);
     Ok(Block { number, bytes })
 }

@@ -6,6 +6,7 @@
 #![tactic(auto)]
 
 mod field;
+mod lanes;
 mod laws;
 mod polynomials;
 mod rows;

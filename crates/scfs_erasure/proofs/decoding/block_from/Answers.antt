@@ -16,6 +16,6 @@ returns-clause-bytes c =
     let size : c.len.result ≡ size_of blocks =
     c.len.ensures
     ∙ c.requires.enough.long 0 first (omega (arith, c.requires.enough.as_many)) in
-    c.in_ok-bytes.ensures ∙ c.deref.ensures.value ∙ c.in_ok-row.ensures.row
+    c.from_vec-bytes.ensures ∙ c.in_ok-row.ensures.row
     ∙ ap (λ size. row_at (numbers_of blocks) (bytes_of blocks) size c.args.number) size
     ∙ sym (piece_of_rows-rows_from c.args.f (size_of blocks) blocks c.args.number (omega arith) c.requires.enough)
