@@ -48,6 +48,14 @@ printf '%-11s %8s %9s %9s %9s\n' measure rounds first second third
 for measure in digest stream row encode1 encode3 decode1 decode3; do
     row "$measure" $mebibyte
 done
+# malloc gives the system back the blocks that a round frees, and the next round's are then cleared pages again. Told to keep up to 64 MiB
+# it doesn't, so these rows are what the code itself takes.
+echo "the same where malloc keeps what was freed"
+export MALLOC_TRIM_THRESHOLD_=67108864 MALLOC_MMAP_THRESHOLD_=33554432
+for measure in encode1 encode3 decode1 decode3; do
+    row "$measure" $mebibyte
+done
+unset MALLOC_TRIM_THRESHOLD_ MALLOC_MMAP_THRESHOLD_
 echo "steps a second"
 for measure in steps1000 steps100000; do
     row "$measure" 1000000
