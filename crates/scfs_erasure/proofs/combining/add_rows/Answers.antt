@@ -1,13 +1,13 @@
-use Rattle.std.proofs.Common.{◌≡◌, ◌+◌, ◌<◌, length, drop, get_or, slice_index, refl, ap, sym, ◌∙◌, arith, []}
+use Rattle.std.proofs.Common.{◌≡◌, ◌+◌, ◌<◌, length, drop, ap, sym, ◌∙◌, arith, []}
 use Rattle.std.proofs.lemmas.List.{get_or-map, length-map}
-use Rattle.scfs_gf256.specs.Rows.{row_sum, scaled, add_multiples}
+use Rattle.scfs_gf256.specs.Rows.{scaled, add_multiples}
 use Rattle.scfs_gf256.specs.Field.{times}
 use Rattle.scfs_gf256.specs.Interpolation.{lagrange_factors}
 use Rattle.scfs_gf256.proofs.Bytes.{length-row_sum}
 use Rattle.scfs_gf256.proofs.Fitting.{length-lagrange_factors}
 use Rattle.scfs_gf256.proofs.RowLaws.{add_multiples-turn, add_multiples-end}
 use Rattle.scfs_erasure.specs.declared.block.Block.{Block}
-use Rattle.scfs_erasure.specs.Blocks.{numbers_of, bytes_of}
+use Rattle.scfs_erasure.specs.Blocks.{bytes_of}
 use Rattle.scfs_erasure.proofs.BlockLemmas.{length-numbers_of, length-bytes_of}
 use Rattle.scfs_erasure.proofs.combining.add_rows.Goals as goal
 

@@ -1,4 +1,4 @@
-use Rattle.std.proofs.Common.{◌≡◌, ℕ, ◌+◌, ◌-◌, ◌++◌, List, length, take, drop, replicate, sym, ap, ap₂, ◌∙◌, arith}
+use Rattle.std.proofs.Common.{◌≡◌, ℕ, ◌+◌, ◌-◌, ◌++◌, List, length, replicate, sym, ap, ap₂, ◌∙◌, arith}
 use Rattle.scfs_gf256.specs.Rows.{add_multiples}
 use Rattle.scfs_gf256.specs.Interpolation.{lagrange_factors}
 use Rattle.scfs_erasure.specs.Rows.{row_at}

@@ -1,4 +1,4 @@
-use Rattle.std.proofs.Common.{◌≡◌, ◌<◌, ◌++◌, [], length, get_or, sym, ap, ◌∙◌, arith}
+use Rattle.std.proofs.Common.{◌≡◌, ◌<◌, ◌++◌, [], length, sym, ap, ◌∙◌, arith}
 use Rattle.scfs_gf256.specs.Polynomials.{AreBytes}
 use Rattle.scfs_erasure.specs.Rows.{row_at}
 use Rattle.scfs_erasure.specs.Blocks.{numbers_of, bytes_of}
