@@ -5,3 +5,6 @@ mod SharedFile
 mod LyingClouds
 mod Closes
 mod LocalCalls
+pub mod HeldSessions
+pub mod HeldSeats
+pub mod HeldSteps
