@@ -8,3 +8,4 @@ mod LocalCalls
 pub mod HeldSessions
 pub mod HeldSeats
 pub mod HeldSteps
+pub mod HeldLines
