@@ -9,3 +9,5 @@ pub mod HeldSessions
 pub mod HeldSeats
 pub mod HeldSteps
 pub mod HeldLines
+pub mod HeldDoing
+pub mod HeldCalls
