@@ -11,3 +11,4 @@ pub mod HeldSteps
 pub mod HeldLines
 pub mod HeldDoing
 pub mod HeldCalls
+pub mod HeldCloses
