@@ -1,4 +1,4 @@
--- Calls leave what is seen of an agent tied to its seat. The close of a session that writes is in HeldCloses.
+-- Calls leave what is seen of an agent tied to its seat; closes are in HeldClosing.
 use Rattle.std.proofs.Common.{◌≡◌, ℕ, ◌+◌, ◌≤◌, List, [], ◌∷◌, ◌++◌, length, refl, sym, ap, ◌∙◌, subst, arith, Bool, true, false, cond, nat_lt, Option, Some, None, Result, Ok, Err}
 use Rattle.scfs_schedule.specs.declared.types.Call.{Call}
 use Rattle.scfs_schedule.specs.declared.types.Call.TheVariants as calls
@@ -120,7 +120,7 @@ module _ (s : Setup) (a : ℕ) (versions : List Version_seen) (y : Agent_seen) (
     steps = none_asked s a versions y.close None [] asked replied is.steps;
   }
 
-  ended_does : (event : Event) (agent : Agent Row) (h : ℕ) → Seated s versions a y (seat_of (at agent None []) asked replied)
+  pub ended_does : (event : Event) (agent : Agent Row) (h : ℕ) → Seated s versions a y (seat_of (at agent None []) asked replied)
       → Does s event a versions y asked replied (saying (record agent { waiting = None; closed = []; sessions = ended agent.sessions h }) (says.Ended h))
   ended_does event agent h is = record {
     seated = record {

@@ -1,4 +1,4 @@
--- The close of a session that writes, and its upload, leave what is seen of an agent tied to its seat.
+-- Uploads of closed sessions leave what is seen of an agent tied to its seat.
 use Rattle.std.proofs.Common.{◌≡◌, ℕ, ◌+◌, ◌≤◌, List, [], ◌∷◌, ◌++◌, length, map, fold, refl, sym, ap, ◌∙◌, subst, arith, Bool, true, false, cond, nat_le, leb-true, leb-false, le-leb, eqb-true, Option, Some, None, length-append, filter, not}
 use Rattle.std.specs.Prelude.{◌==◌}
 use Rattle.std.specs.List.{list_any}
@@ -52,7 +52,7 @@ module _ (s : Setup) (event : Event) (a : ℕ) (versions : List Version_seen) (y
   }
 
   -- requests that read nothing are made of clouds
-  puts_does : (agent : Agent Row) (clouds : List ℕ) (name : List ℕ) (body : ℕ → List ℕ) → Seated s versions a y (seat_of agent asked replied)
+  pub puts_does : (agent : Agent Row) (clouds : List ℕ) (name : List ℕ) (body : ℕ → List ℕ) → Seated s versions a y (seat_of agent asked replied)
       → Does s event a versions y asked replied (asks_clouds agent (next_asked a agent clouds) (λ c. requests.Put name (body c)))
   puts_does agent clouds name body is =
       let made = next_asked a agent clouds in

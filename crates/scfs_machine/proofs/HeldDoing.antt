@@ -89,7 +89,7 @@ followed_silent {V} first next still =
 
 -- no upload begins where one goes on or no session is closed
 module _ (s : Setup) (a : ℕ) (agent : Agent Row) where
-  empty_not_begun : (closed : List (Closed Row)) → IsEmpty closed → next_begun s rows a agent closed ≡ silent agent
+  pub empty_not_begun : (closed : List (Closed Row)) → IsEmpty closed → next_begun s rows a agent closed ≡ silent agent
   empty_not_begun [] empty = refl
   empty_not_begun (x ∷ rest) empty = absurd empty
 
@@ -103,7 +103,7 @@ module _ (s : Setup) (a : ℕ) (agent : Agent Row) where
   closes_not_begun y (x ∷ []) is = going_not_begun y.close [] x x.upload is
   closes_not_begun y (x ∷ z ∷ rest) is = absurd is
 
-  not_begun : (y : Agent_seen) (waiting : Option (Waiting Row)) (closed : List (Closed Row)) → Waits s y waiting closed
+  pub not_begun : (y : Agent_seen) (waiting : Option (Waiting Row)) (closed : List (Closed Row)) → Waits s y waiting closed
       → next_begun s rows a agent closed ≡ silent agent
   not_begun y None closed is = empty_not_begun closed is
   not_begun y (Some For_step) closed is = empty_not_begun closed is

@@ -12,3 +12,4 @@ pub mod HeldLines
 pub mod HeldDoing
 pub mod HeldCalls
 pub mod HeldCloses
+pub mod HeldClosing
