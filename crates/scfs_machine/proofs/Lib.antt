@@ -13,3 +13,4 @@ pub mod HeldDoing
 pub mod HeldCalls
 pub mod HeldCloses
 pub mod HeldClosing
+pub mod HeldOpens
