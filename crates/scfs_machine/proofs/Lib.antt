@@ -14,3 +14,4 @@ pub mod HeldCalls
 pub mod HeldCloses
 pub mod HeldClosing
 pub mod HeldOpens
+pub mod HeldTold
