@@ -15,3 +15,4 @@ pub mod HeldCloses
 pub mod HeldClosing
 pub mod HeldOpens
 pub mod HeldTold
+pub mod HeldWork
