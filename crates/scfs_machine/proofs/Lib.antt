@@ -16,3 +16,5 @@ pub mod HeldClosing
 pub mod HeldOpens
 pub mod HeldTold
 pub mod HeldWork
+pub mod HeldVersions
+pub mod HeldSpace
