@@ -14,7 +14,7 @@ use Rattle.scfs_machine.specs.History.{Message}
 use Rattle.scfs_machine.specs.Tree.{Node, Tree, Lock, live, lock_on, session_lock, node_at}
 use Rattle.scfs_machine.specs.Walks.{OrRefusal, on_ok, file_at, free_file_at}
 use Rattle.scfs_machine.specs.NameSteps.{Name_outcome, Makes, Shows, name_line, name_outcome, nodes_after}
-use Rattle.scfs_machine.specs.LockSteps.{lock_line, lock_outcome, locks_after}
+use Rattle.scfs_machine.specs.LockSteps.{Unlock, lock_line, lock_outcome, locks_after}
 use Rattle.scfs_machine.specs.SessionSteps.{Session_step, Open_read, Open_write, Commit, Session_outcome, Sees, Locks, Completes, sight_of, new_lock, still_held, with_version, session_outcome, session_after, session_line}
 use Rattle.scfs_machine.specs.Steps.{Step, On_names, On_locks, On_sessions, Outcome, Of_names, Of_locks, Of_sessions, Served, after_ok, line_of, served, served_line}
 use Rattle.scfs_machine.specs.Layers.{Row, rows}
@@ -89,3 +89,135 @@ module _ (s : Setup) (event : Event) (message : Option Message) (bytes : ℕ →
         (served_seated s x.versions a (x.agents a) agent oldest rest replied o same fits mine) is tree versions);
     shown = (shown, tt);
   }
+
+  -- by what a step comes to
+
+  abbrev after_step : Agent Row → RequestNo → List (Request Row) → List (Reply Row) → Served Row → Effect Row
+  after_step agent request rest replied z =
+      leaving (with_seat (record state { tree = z.tree }) a (seat_of agent rest (replied ++ (record { number = request; outcome = z.outcome }) ∷ [])))
+      (served_line rows request z.outcome ∷ [])
+
+  names_served : (agent : Agent Row) (oldest : Request Row) (rest : List (Request Row)) (replied : List (Reply Row)) (step : _) (tree : Tree Row)
+      (r : OrRefusal Name_outcome) → On_names step ≡ oldest.step → tree.versions ≡ state.tree.versions
+      → Seated s x.versions a (x.agents a) (seat_of agent (oldest ∷ rest) replied) → IsSeenIn s x state
+      → Keeps s event message bytes x (after_step agent oldest.number rest replied
+      (record { outcome = Of_names step r; tree = record tree { nodes = after_ok tree.nodes (nodes_after tree.nodes) r } }))
+  names_served agent oldest rest replied step tree (Ok (Makes n)) same versions mine is =
+      serves_still agent oldest rest replied (Of_names step (Ok (Makes n))) _ (lines.Changed oldest.number) refl tt same tt versions mine is
+  names_served agent oldest rest replied step tree (Ok (Shows n)) same versions mine is =
+      serves_still agent oldest rest replied (Of_names step (Ok (Shows n))) _ (lines.Looked oldest.number) refl tt same tt versions mine is
+  names_served agent oldest rest replied step tree (Err why) same versions mine is =
+      serves_still agent oldest rest replied (Of_names step (Err why)) _ (lines.Refused oldest.number why) refl tt same tt versions mine is
+
+  -- an open
+  reads_served : (agent : Agent Row) (oldest : Request Row) (rest : List (Request Row)) (replied : List (Reply Row)) (names : List (List ℕ)) (h : ℕ) (tree : Tree Row)
+      (r : OrRefusal Node) → On_sessions (Open_read names h) ≡ oldest.step → tree.versions ≡ state.tree.versions
+      → Seated s x.versions a (x.agents a) (seat_of agent (oldest ∷ rest) replied) → IsSeenIn s x state
+      → let o = on_ok (λ n. Sees (sight_of rows tree n)) r in
+      Keeps s event message bytes x (after_step agent oldest.number rest replied
+      (record { outcome = Of_sessions (Open_read names h) o; tree = after_ok tree (session_after rows tree oldest.number) o }))
+  reads_served agent oldest rest replied names h tree (Ok n) same versions mine is =
+      serves_still agent oldest rest replied (Of_sessions (Open_read names h) (Ok (Sees (sight_of rows tree n)))) tree (lines.Looked oldest.number) refl tt same
+      (tied_found s tree.versions x.versions n.id n.newest (subst (λ vs. Tied s vs x.versions) (sym versions) is.versions)) versions mine is
+  reads_served agent oldest rest replied names h tree (Err why) same versions mine is =
+      serves_still agent oldest rest replied (Of_sessions (Open_read names h) (Err why)) tree (lines.Refused oldest.number why) refl tt same tt versions mine is
+
+  writes_served : (agent : Agent Row) (oldest : Request Row) (rest : List (Request Row)) (replied : List (Reply Row)) (names : List (List ℕ)) (h until : ℕ) (tree : Tree Row)
+      (r : OrRefusal Node) → On_sessions (Open_write names h) ≡ oldest.step → tree.versions ≡ state.tree.versions
+      → Seated s x.versions a (x.agents a) (seat_of agent (oldest ∷ rest) replied) → IsSeenIn s x state
+      → let o = on_ok (λ (n : Node). Locks (sight_of rows tree n) (new_lock oldest.number h until n.id)) r in
+      Keeps s event message bytes x (after_step agent oldest.number rest replied
+      (record { outcome = Of_sessions (Open_write names h) o; tree = after_ok tree (session_after rows tree oldest.number) o }))
+  writes_served agent oldest rest replied names h until tree (Ok n) same versions mine is =
+      let l = new_lock oldest.number h until n.id in
+      serves_still agent oldest rest replied (Of_sessions (Open_write names h) (Ok (Locks (sight_of rows tree n) l))) (record tree { locks = tree.locks ++ l ∷ [] })
+      (lines.Locked oldest.number l.file l.until) refl tt same
+      (tied_found s tree.versions x.versions n.id n.newest (subst (λ vs. Tied s vs x.versions) (sym versions) is.versions)) versions mine is
+  writes_served agent oldest rest replied names h until tree (Err why) same versions mine is =
+      serves_still agent oldest rest replied (Of_sessions (Open_write names h) (Err why)) tree (lines.Refused oldest.number why) refl tt same tt versions mine is
+
+  -- a close is completed: the version is that of the agent's latest close
+  commits_served : (agent : Agent Row) (oldest : Request Row) (rest : List (Request Row)) (replied : List (Reply Row)) (h now : ℕ) (v : Row) (tree : Tree Row)
+      (r : OrRefusal Node) → On_sessions (Commit h v) ≡ oldest.step → tree.versions ≡ state.tree.versions
+      → Seated s x.versions a (x.agents a) (seat_of agent (oldest ∷ rest) replied) → IsSeenIn s x state
+      → let o = on_ok (λ n. Completes h (rows.completed v now) (with_version rows n (rows.completed v now))) r in
+      Keeps s event message bytes x (after_step agent oldest.number rest replied
+      (record { outcome = Of_sessions (Commit h v) o; tree = after_ok tree (session_after rows tree oldest.number) o }))
+  commits_served agent oldest rest replied h now v tree (Ok n) same versions mine is = record {
+    seen = record {
+      versions = tied_append s tree.versions x.versions (rows.completed v now) seen (subst (λ vs. Tied s vs x.versions) (sym versions) is.versions)
+          (record { file = refl; number = refl; row = record { upload = row.upload; root = row.root; size = row.size } });
+      seats = λ b m found. elim (get_cases state.seats a b seat m found) [
+        | inl k ↦ subst (λ k. Seated s (x.versions ++ seen ∷ []) k (x.agents k) m) (sym k.0)
+            (subst (Seated s (x.versions ++ seen ∷ []) a (x.agents a)) k.1 (seated_more s x.versions (seen ∷ []) a (x.agents a) seat
+            (served_seated s x.versions a (x.agents a) agent oldest rest replied o same tt mine)))
+        | inr k ↦ seated_more s x.versions (seen ∷ []) b (x.agents b) m (is.seats b m k.1)
+      ];
+    };
+    shown = (tt, tt);
+  }
+    where
+      o : Outcome Row
+      o = Of_sessions (Commit h v) (Ok (Completes h (rows.completed v now) (with_version rows n (rows.completed v now))))
+
+      seat : Seat Row
+      seat = seat_of agent rest (replied ++ (record { number = oldest.number; outcome = o }) ∷ [])
+
+      seen : Version_seen
+      seen = record { file = v.file; number = v.number; close = (x.agents oldest.number.agent).close }
+
+      row : IsRow s v (x.agents oldest.number.agent).close
+      row =
+          let fits = subst (Fits s (x.agents a).close agent.waiting agent.closed) (sym same) mine.steps.asks.0.1 in
+          subst (λ k. IsRow s v (x.agents k).close) (sym mine.steps.asks.0.0) fits.1
+  commits_served agent oldest rest replied h now v tree (Err why) same versions mine is =
+      serves_still agent oldest rest replied (Of_sessions (Commit h v) (Err why)) tree (lines.Refused oldest.number why) refl tt same tt versions mine is
+
+  -- the oldest step is served in a tree
+  step_served : (agent : Agent Row) (oldest : Request Row) (step : Step Row) (rest : List (Request Row)) (replied : List (Reply Row)) (tree : Tree Row) (now lease : ℕ)
+      → step ≡ oldest.step → tree.versions ≡ state.tree.versions → Seated s x.versions a (x.agents a) (seat_of agent (oldest ∷ rest) replied) → IsSeenIn s x state
+      → Keeps s event message bytes x (after_step agent oldest.number rest replied (served rows tree now lease oldest.number step))
+  step_served agent oldest (On_names z) rest replied tree now lease same versions mine is =
+      names_served agent oldest rest replied z tree (name_outcome tree.nodes z) same versions mine is
+  step_served agent oldest (On_locks (Unlock file h)) rest replied tree now lease same versions mine is =
+      let r = lock_outcome tree.locks oldest.number (Unlock file h) in
+      serves_still agent oldest rest replied (Of_locks (Unlock file h) r) (record tree { locks = locks_after tree.locks oldest.number (Unlock file h) })
+      (line_of oldest.number lock_line r) refl tt same tt versions mine is
+  step_served agent oldest (On_sessions (Open_read names h)) rest replied tree now lease same versions mine is =
+      reads_served agent oldest rest replied names h tree (file_at tree.nodes names) same versions mine is
+  step_served agent oldest (On_sessions (Open_write names h)) rest replied tree now lease same versions mine is =
+      writes_served agent oldest rest replied names h (now + lease) tree (free_file_at tree.nodes tree.locks names) same versions mine is
+  step_served agent oldest (On_sessions (Commit h v)) rest replied tree now lease same versions mine is =
+      commits_served agent oldest rest replied h now v tree
+      (still_held (session_lock tree.locks oldest.number v.file h) (node_at tree.nodes v.file (v.number - 1))) same versions mine is
+
+  -- the space serves the oldest step at seat a
+  pub serves_keeps : (agent : Agent Row) (asked : List (Request Row)) (replied : List (Reply Row))
+      → Seated s x.versions a (x.agents a) (seat_of agent asked replied) → IsSeenIn s x state
+      → Keeps s event message bytes x (serves s rows state a (seat_of agent asked replied) asked)
+  serves_keeps agent [] replied mine is = record { seen = is; shown = (tt, tt) }
+  serves_keeps agent (oldest ∷ rest) replied mine is =
+      step_served agent oldest oldest.step rest replied (live state.clock state.tree) state.clock s.header.lease refl refl mine is
+
+  -- the oldest step goes to the back
+  pub postpones_keeps : (agent : Agent Row) (asked : List (Request Row)) (replied : List (Reply Row))
+      → Seated s x.versions a (x.agents a) (seat_of agent asked replied) → IsSeenIn s x state
+      → Keeps s event message bytes x (postpones state a (seat_of agent asked replied) asked)
+  postpones_keeps agent [] replied mine is = record { seen = is; shown = (tt, tt) }
+  postpones_keeps agent (oldest ∷ rest) replied mine is =
+      let few = mine.steps.alone in
+      let sum = asked_append rest (oldest ∷ []) in
+      record {
+        seen = seat_set (seat_of agent (rest ++ oldest ∷ []) replied) (record {
+          sessions = mine.sessions;
+          incarnation = mine.incarnation;
+          upload = mine.upload;
+          waits = mine.waits;
+          steps = record {
+            asks = each_append (RequestFits s a x.versions (x.agents a).close agent.waiting agent.closed) rest (oldest ∷ []) mine.steps.asks.1 (mine.steps.asks.0, tt);
+            replies = mine.steps.replies;
+            alone = omega (arith, few, sum);
+          };
+        }) is state.tree refl;
+        shown = tt;
+      }
