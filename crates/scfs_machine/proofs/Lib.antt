@@ -18,3 +18,4 @@ pub mod HeldTold
 pub mod HeldWork
 pub mod HeldVersions
 pub mod HeldSpace
+pub mod HeldPlaces
