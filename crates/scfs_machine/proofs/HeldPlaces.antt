@@ -66,7 +66,7 @@ module _ (s : Setup) (event : Event) (bytes : ℕ → ℕ → List ℕ) where
 
 module _ (s : Setup) (event : Event) (message : Option Message) (bytes : ℕ → ℕ → List ℕ) (x : Seen) (state : State Row) where
   -- what agent a did, where what is seen of it was changed before, by its event and by the lines before its own
-  did_keeps : (start : Seen) (a : ℕ) (first y : Agent_seen) (agent : Agent Row) (asked : List (Request Row)) (replied : List (Reply Row)) (before : List Line)
+  pub did_keeps : (start : Seen) (a : ℕ) (first y : Agent_seen) (agent : Agent Row) (asked : List (Request Row)) (replied : List (Reply Row)) (before : List Line)
       (r : Reaction Row) → IsSeenIn s x state → Becomes a x start first → Becomes a start (fold (seen_line s event message) start before) y → y.bytes ≡ bytes a
       → Each (IsShown event bytes) before → Does s event a x.versions y asked replied r
       → Keeps s event message bytes start (did s state a (seat_of agent asked replied) before r)
@@ -100,7 +100,7 @@ bytes_of x a = (x.agents a).bytes
 
 module _ (s : Setup) (message : Option Message) (x : Seen) (state : State Row) (given : Given) (is : IsSeenIn s x state) where
   -- an agent that does something of its own accord
-  own_keeps : (event : Event) (a : ℕ) (agent : Agent Row) (asked : List (Request Row)) (replied : List (Reply Row)) (input : Input Row)
+  pub own_keeps : (event : Event) (a : ℕ) (agent : Agent Row) (asked : List (Request Row)) (replied : List (Reply Row)) (input : Input Row)
       → Does s event a x.versions (x.agents a) asked replied (reacted s rows a agent given input)
       → Keeps s event message (bytes_of x) x (comes s rows state a given [] input (seat_of agent asked replied))
   own_keeps event a agent asked replied input does =
@@ -108,7 +108,7 @@ module _ (s : Setup) (message : Option Message) (x : Seen) (state : State Row) (
       (nothing_becomes a x) (nothing_becomes a x) refl tt does
 
   -- an event that comes to a seat, if that is there
-  at_seat_keeps : (event : Event) (a : ℕ) (on : Seat Row → Effect Row)
+  pub at_seat_keeps : (event : Event) (a : ℕ) (on : Seat Row → Effect Row)
       → ((seat : Seat Row) → Seated s x.versions a (x.agents a) seat → Keeps s event message (bytes_of x) x (on seat))
       → Keeps s event message (bytes_of x) x (at_seat state a on)
   at_seat_keeps event a on each = by (slice_get state.seats a) (is.seats a)
@@ -118,7 +118,7 @@ module _ (s : Setup) (message : Option Message) (x : Seen) (state : State Row) (
       by None seated = record { seen = is; shown = tt }
       by (Some seat) seated = each seat (seated seat refl)
 
-  call_keeps : (a : ℕ) (call : Call) → IsNoClose call
+  pub call_keeps : (a : ℕ) (call : Call) → IsNoClose call
       → Keeps s (events.Call a call) message (bytes_of x) x (at_seat state a (comes s rows state a given [] (Calls call)))
   call_keeps a call kind =
       at_seat_keeps (events.Call a call) a (comes s rows state a given [] (Calls call)) (λ seat mine.
@@ -127,7 +127,7 @@ module _ (s : Setup) (message : Option Message) (x : Seen) (state : State Row) (
       (call_does s a x.versions (x.agents a) seat.asked seat.replied seat.agent seat.agent.waiting seat.agent.closed call kind mine)))
 
   -- a close
-  close_found : (a h : ℕ) (agent : Agent Row) (asked : List (Request Row)) (replied : List (Reply Row)) → Seated s x.versions a (x.agents a) (seat_of agent asked replied)
+  pub close_found : (a h : ℕ) (agent : Agent Row) (asked : List (Request Row)) (replied : List (Reply Row)) → Seated s x.versions a (x.agents a) (seat_of agent asked replied)
       → let event = events.Call a (calls.Close h) in let e = comes s rows state a given [] (Calls (calls.Close h)) (seat_of agent asked replied) in
       Keeps s event message (bytes_of x) (seen_event event e.lines x) e
   close_found a h agent asked replied mine =

@@ -19,3 +19,4 @@ pub mod HeldWork
 pub mod HeldVersions
 pub mod HeldSpace
 pub mod HeldPlaces
+pub mod HeldReads
