@@ -1,5 +1,5 @@
 -- Calls leave what is seen of an agent tied to its seat; closes are in HeldClosing.
-use Rattle.std.proofs.Common.{◌≡◌, ℕ, ◌+◌, ◌≤◌, List, [], ◌∷◌, ◌++◌, length, refl, sym, ap, ◌∙◌, subst, arith, Bool, true, false, cond, nat_lt, Option, Some, None, Result, Ok, Err}
+use Rattle.std.proofs.Common.{◌≡◌, ℕ, ◌+◌, List, [], ◌∷◌, ◌++◌, length, refl, sym, ap, ◌∙◌, arith, Bool, true, false, cond, nat_lt, Option, Some, None, Result, Ok, Err}
 use Rattle.scfs_schedule.specs.declared.types.Call.{Call}
 use Rattle.scfs_schedule.specs.declared.types.Call.TheVariants as calls
 use Rattle.scfs_schedule.specs.declared.types.Event.{Event}
@@ -13,21 +13,20 @@ use Rattle.scfs_session.specs.Open.{session_of, ended, read_answer, change_refus
 use Rattle.scfs_machine.specs.Limits.{handles_limit}
 use Rattle.scfs_machine.specs.Names.{file_id}
 use Rattle.scfs_machine.specs.Format.{Setup}
-use Rattle.scfs_machine.specs.Walks.{OrRefusal}
 use Rattle.scfs_machine.specs.NameSteps.{Make, Look}
 use Rattle.scfs_machine.specs.SessionSteps.{Session_step, Open_read, Open_write}
 use Rattle.scfs_machine.specs.Steps.{Step, On_names, On_sessions}
 use Rattle.scfs_machine.specs.Sayings.{Saying}
 use Rattle.scfs_machine.specs.Sayings as says
-use Rattle.scfs_machine.specs.Agents.{Waiting, For_step, Closed, Request, Agent, Reaction, saying}
-use Rattle.scfs_machine.specs.Calls.{any_names, path_names, with_session, with_room, calls_step, makes, looks, opens, called, call_of}
+use Rattle.scfs_machine.specs.Agents.{Waiting, For_step, Closed, Request, Agent, saying}
+use Rattle.scfs_machine.specs.Calls.{any_names, path_names, with_session, calls_step, opens, called, call_of}
 use Rattle.scfs_machine.specs.Layers.{Row}
 use Rattle.scfs_machine.specs.States.{Reply}
 use Rattle.scfs_machine.specs.Held.{Version_seen, Agent_seen, set_at, with_bytes, edited}
 use Rattle.scfs_machine.proofs.HeldSessions.{IsChangedAt, held_set, held_ended, held_found}
-use Rattle.scfs_machine.proofs.HeldSeats.{Fits, IsStepping, busy, busy_asked, busy_replied, Between, Seated}
+use Rattle.scfs_machine.proofs.HeldSeats.{Fits, Seated}
 use Rattle.scfs_machine.proofs.HeldSteps.{busy_once, none_asked, all_idle, any_change}
-use Rattle.scfs_machine.proofs.HeldLines.{set_here, set_there, IsSaid, Does}
+use Rattle.scfs_machine.proofs.HeldLines.{set_here, set_there, Does}
 use Rattle.scfs_machine.proofs.HeldDoing.{at, seat_of, says_none, silent_does, refuse_does, asks_does, unless_does, either_does}
 
 -- a change of one session's bytes
@@ -155,8 +154,15 @@ module _ (s : Setup) (a : ℕ) (versions : List Version_seen) (y : Agent_seen) (
       unless_does s (events.Call a (calls.Read h offset count)) a versions y asked replied (at agent None [])
       (read_answer (session_of agent.sessions h) offset count) _ is (λ shown made. record {
         seated = says_none s (events.Call a (calls.Read h offset count)) a versions y asked replied (at agent None []) is;
-        says = ((offset, count, refl,
-            shown_of y.bytes h offset count (session_of agent.sessions h) shown (λ x there. held_found y.bytes agent.sessions h x there is.sessions) made), tt);
+        says = (
+          (
+            offset,
+            count,
+            refl,
+            shown_of y.bytes h offset count (session_of agent.sessions h) shown (λ x there. held_found y.bytes agent.sessions h x there is.sessions) made,
+          ),
+          tt,
+        );
         sent = tt;
       })
   called_does agent (calls.Write h offset new) is kind =

@@ -1,34 +1,27 @@
 -- Uploads of closed sessions leave what is seen of an agent tied to its seat.
-use Rattle.std.proofs.Common.{◌≡◌, ℕ, ◌+◌, ◌≤◌, List, [], ◌∷◌, ◌++◌, length, map, fold, refl, sym, ap, ◌∙◌, subst, arith, Bool, true, false, cond, nat_le, leb-true, leb-false, le-leb, eqb-true, Option, Some, None, length-append, filter, not}
+use Rattle.std.proofs.Common.{◌≡◌, ℕ, ◌+◌, ◌≤◌, List, [], ◌∷◌, ◌++◌, length, refl, sym, subst, arith, Bool, true, false, cond, nat_le, leb-true, le-leb, eqb-true, Some, None, length-append, filter, not}
 use Rattle.std.specs.Prelude.{◌==◌}
-use Rattle.std.specs.List.{list_any}
 use Rattle.scfs_base.specs.declared.naming.RequestNo.{RequestNo}
-use Rattle.scfs_base.specs.declared.naming.UploadNo.{UploadNo}
 use Rattle.scfs_base.specs.declared.cloud.CloudAnswer.{CloudAnswer}
 use Rattle.scfs_base.specs.declared.cloud.CloudRequest.TheVariants as requests
 use Rattle.scfs_schedule.specs.declared.types.Event.{Event}
-use Rattle.scfs_schedule.specs.declared.types.Refusal.TheVariants as refusals
-use Rattle.scfs_session.specs.declared.sessions.Session.{Session}
-use Rattle.scfs_session.specs.Open.{session_of, ended}
 use Rattle.scfs_machine.specs.Limits.{turns_limit}
 use Rattle.scfs_machine.specs.Lists.{below, is_in}
-use Rattle.scfs_machine.specs.Names.{upload_no, upload_name}
-use Rattle.scfs_machine.specs.Format.{Setup, clouds_of, enough, sealed, object_at}
-use Rattle.scfs_machine.specs.Asked.{Asked}
-use Rattle.scfs_machine.specs.Next.{Next, Goes_on, Asks, Has, Gives_up}
-use Rattle.scfs_machine.specs.Storing.{Storing, is_enough, with_ack, store_on, store_turn, is_new_ack}
+use Rattle.scfs_machine.specs.Format.{Setup, clouds_of, enough, object_at}
+use Rattle.scfs_machine.specs.Next.{Goes_on, Asks, Has, Gives_up}
+use Rattle.scfs_machine.specs.Storing.{is_enough, with_ack, store_on, is_new_ack}
 use Rattle.scfs_machine.specs.LockSteps.{Unlock}
 use Rattle.scfs_machine.specs.SessionSteps.{Commit}
 use Rattle.scfs_machine.specs.Steps.{On_locks, On_sessions}
-use Rattle.scfs_machine.specs.Agents.{Waiting, For_close, Closed, Upload, Request, Agent, Reaction, silent, next_asked, asks_clouds}
-use Rattle.scfs_machine.specs.Closes.{goes_on, with_storing, asks_puts, falls_short, stores, upload_hears, upload_turns, begins}
-use Rattle.scfs_machine.specs.Layers.{Row, rows}
-use Rattle.scfs_machine.specs.States.{Reply, request_line}
-use Rattle.scfs_machine.specs.Held.{Close_seen, Version_seen, Agent_seen, is_answer, with_close}
-use Rattle.scfs_machine.proofs.HeldSeats.{IsRow, busy_asked, busy_replied, Between, Seated}
+use Rattle.scfs_machine.specs.Agents.{For_close, Closed, Upload, Request, Agent, next_asked, asks_clouds}
+use Rattle.scfs_machine.specs.Closes.{with_storing, stores, upload_hears, upload_turns}
+use Rattle.scfs_machine.specs.Layers.{Row}
+use Rattle.scfs_machine.specs.States.{Reply}
+use Rattle.scfs_machine.specs.Held.{Version_seen, Agent_seen}
+use Rattle.scfs_machine.proofs.HeldSeats.{IsRow, busy_asked, busy_replied, Seated}
 use Rattle.scfs_machine.proofs.HeldSteps.{none_asked, all_idle, any_change, loose_change}
-use Rattle.scfs_machine.proofs.HeldLines.{after_sent, Does}
-use Rattle.scfs_machine.proofs.HeldDoing.{at, seat_of, says_none, silent_does, asks_does, after_puts, asked_own}
+use Rattle.scfs_machine.proofs.HeldLines.{Does}
+use Rattle.scfs_machine.proofs.HeldDoing.{at, seat_of, silent_does, asks_does, after_puts, asked_own}
 
 -- the agent whose one closed session is uploaded so
 abbrev pub uploading : Agent Row → Closed Row → Upload Row → Agent Row

@@ -1,11 +1,10 @@
 -- A call that closes a session: what is seen is the close of a session that writes, and nothing else.
-use Rattle.std.proofs.Common.{◌≡◌, ℕ, ◌+◌, ◌≤◌, List, [], ◌∷◌, ◌++◌, length, map, fold, refl, sym, ap, ◌∙◌, subst, arith, ◌⊎◌, inl, inr, Bool, true, false, cond, Option, Some, None}
+use Rattle.std.proofs.Common.{◌≡◌, ℕ, ◌+◌, List, [], ◌∷◌, ◌++◌, length, map, refl, sym, ap, ◌∙◌, subst, ◌⊎◌, inl, inr, Bool, true, false, cond, Option, Some, None}
 use Rattle.std.specs.List.{list_any}
 use Rattle.scfs_base.specs.declared.naming.UploadNo.{UploadNo}
 use Rattle.scfs_base.specs.declared.cloud.CloudRequest.TheVariants as requests
 use Rattle.scfs_schedule.specs.declared.types.Call.TheVariants as calls
 use Rattle.scfs_schedule.specs.declared.types.Event.{Event}
-use Rattle.scfs_schedule.specs.declared.types.Line.{Line}
 use Rattle.scfs_schedule.specs.declared.types.Refusal.{Refusal}
 use Rattle.scfs_schedule.specs.declared.types.Refusal.TheVariants as refusals
 use Rattle.scfs_session.specs.declared.sessions.Session.{Session}
@@ -15,10 +14,9 @@ use Rattle.scfs_machine.specs.Names.{upload_no, upload_name}
 use Rattle.scfs_machine.specs.Format.{Setup, clouds_of, sealed, object_at}
 use Rattle.scfs_machine.specs.Given.{Given}
 use Rattle.scfs_machine.specs.Asked.{Asked}
-use Rattle.scfs_machine.specs.Storing.{Storing}
 use Rattle.scfs_machine.specs.Sayings.{said_by}
 use Rattle.scfs_machine.specs.Sayings as says
-use Rattle.scfs_machine.specs.Agents.{Waiting, For_close, Closed, Upload, Request, Agent, Sent, Input, Calls, Reaction, silent, saying, followed, next_asked}
+use Rattle.scfs_machine.specs.Agents.{Waiting, For_close, Closed, Upload, Request, Agent, Sent, Calls, Reaction, silent, saying, followed, next_asked}
 use Rattle.scfs_machine.specs.Calls.{refuse, closes, close}
 use Rattle.scfs_machine.specs.Closes.{begins}
 use Rattle.scfs_machine.specs.Layers.{Row, rows}
@@ -26,12 +24,12 @@ use Rattle.scfs_machine.specs.Reactions.{next_begun, reacted}
 use Rattle.scfs_machine.specs.States.{Reply, request_line}
 use Rattle.scfs_machine.specs.Held.{Close_seen, Version_seen, Agent_seen, is_answer, with_close}
 use Rattle.scfs_machine.proofs.HeldSessions.{held_ended, held_found}
-use Rattle.scfs_machine.proofs.HeldSeats.{IsRow, busy_asked, busy_replied, Between, Seated}
+use Rattle.scfs_machine.proofs.HeldSeats.{IsRow, Seated}
 use Rattle.scfs_machine.proofs.HeldSteps.{all_idle, any_change}
 use Rattle.scfs_machine.proofs.HeldLines.{Does}
-use Rattle.scfs_machine.proofs.HeldDoing.{at, seat_of, refuse_does, reacted_does, empty_not_begun, not_begun, followed_silent}
+use Rattle.scfs_machine.proofs.HeldDoing.{at, seat_of, refuse_does, not_begun, followed_silent}
 use Rattle.scfs_machine.proofs.HeldCalls.{ended_does}
-use Rattle.scfs_machine.proofs.HeldCloses.{uploading, puts_does}
+use Rattle.scfs_machine.proofs.HeldCloses.{puts_does}
 
 -- whether the lines of a reaction answer a close
 abbrev pub answers_close : (s : Setup) → (a : ℕ) → Reaction Row → Bool
@@ -106,8 +104,10 @@ module _ (s : Setup) (event : Event) (a : ℕ) (versions : List Version_seen) (y
       let puts = next_asked a (record agent { uploads = agent.uploads + 1 }) (below (clouds_of s)) in
       let number = upload_no a agent.incarnation (agent.uploads + 1) in
       let does = writes_does agent z there is in
-      inr (puts_answer_none s (upload_name number) (object_at (sealed s number z.contents)) puts,
-      record { seated = does.seated; says = does.says; sent = does.sent })
+      inr (
+        puts_answer_none s (upload_name number) (object_at (sealed s number z.contents)) puts,
+        record { seated = does.seated; says = does.says; sent = does.sent },
+      )
   ends_closing agent z false there is =
       let does = ended_does s a versions y asked replied event agent h is in
       inl (refl, record { seated = does.seated; says = does.says; sent = does.sent })

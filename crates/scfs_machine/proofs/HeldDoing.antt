@@ -1,26 +1,24 @@
 -- What an agent does, by the forms of its reactions, leaves what is seen tied to its seat.
-use Rattle.std.proofs.Common.{◌≡◌, ℕ, ◌+◌, ◌≤◌, List, [], ◌∷◌, ◌++◌, length, map, fold, refl, sym, ap, ◌∙◌, subst, append-nil, append_assoc, Bool, true, false, cond, Option, Some, None, Result, Ok, Err}
+use Rattle.std.proofs.Common.{◌≡◌, ℕ, ◌+◌, ◌≤◌, List, [], ◌∷◌, ◌++◌, map, fold, refl, sym, ap, ◌∙◌, subst, append-nil, append_assoc, Bool, true, false, cond, Option, Some, None, Result, Ok, Err}
 use Rattle.scfs_base.specs.declared.cloud.CloudRequest.{CloudRequest}
 use Rattle.scfs_base.specs.declared.cloud.CloudRequest.TheVariants as requests
 use Rattle.scfs_policy.specs.declared.rank.RankFacts.{RankFacts}
 use Rattle.scfs_schedule.specs.declared.types.Event.{Event}
 use Rattle.scfs_schedule.specs.declared.types.Refusal.{Refusal}
-use Rattle.scfs_machine.specs.Names.{request_no}
 use Rattle.scfs_machine.specs.Format.{Setup}
 use Rattle.scfs_machine.specs.Given.{Given}
 use Rattle.scfs_machine.specs.Asked.{Asked, asked_of}
 use Rattle.scfs_machine.specs.Steps.{Step}
 use Rattle.scfs_machine.specs.Sayings.{Saying}
-use Rattle.scfs_machine.specs.Sayings as says
-use Rattle.scfs_machine.specs.Agents.{Waiting, For_step, For_clouds, For_close, Closed, Upload, Request, Agent, Sent, Reaction, Input, silent, saying, followed, next_request, asks_step}
+use Rattle.scfs_machine.specs.Agents.{Waiting, For_step, For_clouds, For_close, Closed, Upload, Request, Agent, Sent, Reaction, Input, silent, followed, next_request, asks_step}
 use Rattle.scfs_machine.specs.Calls.{refuse, unless_refused}
 use Rattle.scfs_machine.specs.Layers.{Row, rows}
-use Rattle.scfs_machine.specs.Reactions.{to_upload, begun, next_begun, responded, reacted}
+use Rattle.scfs_machine.specs.Reactions.{begun, next_begun, responded, reacted}
 use Rattle.scfs_machine.specs.States.{Reply, Seat}
 use Rattle.scfs_machine.specs.Held.{Close_seen, Version_seen, Agent_seen, with_reading, with_get}
-use Rattle.scfs_machine.proofs.HeldSeats.{Each, IsEmpty, Waits, Closes, Uploads, Fits, busy, busy_asked, busy_replied, Between, Seated}
+use Rattle.scfs_machine.proofs.HeldSeats.{Each, IsEmpty, Waits, Closes, Uploads, Fits, busy, busy_asked, busy_replied, Seated}
 use Rattle.scfs_machine.proofs.HeldSteps.{none_asked, one_asked}
-use Rattle.scfs_machine.proofs.HeldLines.{after_saying, after_sent, IsSaid, IsOwn, after_doing, Does}
+use Rattle.scfs_machine.proofs.HeldLines.{after_sent, IsOwn, after_doing, Does}
 
 -- an agent that waits for this, with these closed sessions
 abbrev pub at : Agent Row → Option (Waiting Row) → List (Closed Row) → Agent Row

@@ -1,14 +1,12 @@
 -- Opens, from their sights on, leave what is seen of an agent tied to its seat.
-use Rattle.std.proofs.Common.{◌≡◌, ℕ, ◌+◌, ◌≤◌, List, [], ◌∷◌, ◌++◌, length, map, fold, take, filter, not, find, refl, sym, ap, ◌∙◌, subst, arith, Bool, true, false, cond, Option, Some, None, is_some}
-use Rattle.std.specs.Prelude.{◌==◌, option_to_list}
+use Rattle.std.proofs.Common.{◌≡◌, ℕ, ◌+◌, List, [], ◌∷◌, ◌++◌, length, take, filter, not, refl, sym, ap, ◌∙◌, subst, arith, Bool, true, false, cond, Option, Some, None, is_some}
+use Rattle.std.specs.Prelude.{◌==◌}
 use Rattle.scfs_base.specs.declared.naming.Digest.{Digest}
 use Rattle.scfs_base.specs.declared.naming.FileId.{FileId}
 use Rattle.scfs_base.specs.declared.naming.RequestNo.{RequestNo}
-use Rattle.scfs_base.specs.declared.naming.UploadNo.{UploadNo}
 use Rattle.scfs_base.specs.declared.cloud.CloudAnswer.{CloudAnswer}
 use Rattle.scfs_base.specs.declared.cloud.CloudRequest.TheVariants as requests
 use Rattle.scfs_schedule.specs.declared.types.Event.{Event}
-use Rattle.scfs_schedule.specs.declared.types.Refusal.TheVariants as refusals
 use Rattle.scfs_schedule.specs.declared.types.Src.{Src}
 use Rattle.scfs_schedule.specs.declared.types.Src.TheVariants as sources
 use Rattle.scfs_unit.specs.declared.pieces.KeptPiece.{KeptPiece}
@@ -20,19 +18,19 @@ use Rattle.scfs_machine.specs.Format.{Setup, sealed}
 use Rattle.scfs_machine.specs.Given.{Given}
 use Rattle.scfs_machine.specs.Ranks.{order_by}
 use Rattle.scfs_machine.specs.Next.{Next, Goes_on, Asks, Has, Gives_up}
-use Rattle.scfs_machine.specs.Reading.{Reading, is_good, is_awaited, piece_in, with_piece, next_cloud, read_on, read_turn}
+use Rattle.scfs_machine.specs.Reading.{Reading, is_good, is_awaited, piece_in, with_piece, read_on}
 use Rattle.scfs_machine.specs.LockSteps.{Unlock}
 use Rattle.scfs_machine.specs.SessionSteps.{Sight}
 use Rattle.scfs_machine.specs.Steps.{On_locks}
-use Rattle.scfs_machine.specs.Agents.{Opening, Waiting, For_step, For_clouds, Closed, Request, Agent, Reaction, silent, next_asked, asks_step}
+use Rattle.scfs_machine.specs.Agents.{Opening, Waiting, For_step, For_clouds, Request, Agent, silent, next_asked, asks_step}
 use Rattle.scfs_machine.specs.Opens.{Found, As_empty, On_clouds, found_version, found, opened, tallied, session_on, asks_gets, sighted, saw, gives_up, reads, takes, open_hears, open_turns}
 use Rattle.scfs_machine.specs.Layers.{Row, rows}
 use Rattle.scfs_machine.specs.States.{Reply}
-use Rattle.scfs_machine.specs.Held.{Close_seen, Version_seen, Agent_seen, set_at, with_bytes, with_reading, new_reading, no_close, is_version, reading_of, bytes_opened, after_answer}
+use Rattle.scfs_machine.specs.Held.{Close_seen, Version_seen, Agent_seen, set_at, with_reading, new_reading, no_close, reading_of, bytes_opened, after_answer}
 use Rattle.scfs_machine.proofs.HeldSessions.{held_opened}
-use Rattle.scfs_machine.proofs.HeldSeats.{IsEmpty, IsRow, IsSeen, told_of, Waits, busy_asked, busy_replied, Between, Seated}
+use Rattle.scfs_machine.proofs.HeldSeats.{IsRow, IsSeen, told_of, busy_asked, busy_replied, Seated}
 use Rattle.scfs_machine.proofs.HeldSteps.{none_asked, all_idle, any_change, loose_change}
-use Rattle.scfs_machine.proofs.HeldLines.{after_sent, Does}
+use Rattle.scfs_machine.proofs.HeldLines.{Does}
 use Rattle.scfs_machine.proofs.HeldDoing.{at, seat_of, silent_does, asks_does, after_gets, asked_own}
 use Rattle.scfs_machine.proofs.HeldCalls.{changes_at}
 
@@ -225,6 +223,6 @@ module _ (s : Setup) (event : Event) (a : ℕ) (versions : List Version_seen) (a
   saw_does y agent given request h writes sight is none seen own =
       let next = with_reading (λ r. reading_of s versions sight.file sight.number) y in
       let rest = found_does next agent given h writes sight (found sight)
-          (record { sessions = is.sessions; incarnation = is.incarnation; upload = is.upload; waits = tt; steps = is.steps }) none
-          (found_is next (sight.number == 0) sight.file sight.number sight.version seen refl) in
+      (record { sessions = is.sessions; incarnation = is.incarnation; upload = is.upload; waits = tt; steps = is.steps }) none
+      (found_is next (sight.number == 0) sight.file sight.number sight.version seen refl) in
       record { seated = rest.seated; says = (own, rest.says); sent = rest.sent }

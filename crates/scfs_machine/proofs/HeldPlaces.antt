@@ -1,9 +1,6 @@
 -- Each event leaves what is seen tied to the machine's state.
-use Rattle.std.proofs.Common.{◌≡◌, ℕ, ◌+◌, ◌≤◌, ◌≢◌, List, [], ◌∷◌, ◌++◌, map, fold, refl, sym, ap, ◌∙◌, subst, true≢false, eq-eqb, eqb-true, ◌⊎◌, inl, inr, slice_get, slice_set, Bool, true, false, cond, Option, Some, None}
-use Rattle.std.specs.Prelude.{◌==◌}
-use Rattle.std.specs.List.{list_any}
+use Rattle.std.proofs.Common.{◌≡◌, ℕ, List, [], ◌∷◌, ◌++◌, map, fold, refl, sym, ap, ◌∙◌, subst, inl, inr, slice_get, cond, Option, Some, None}
 use Rattle.scfs_base.specs.declared.naming.RequestNo.{RequestNo}
-use Rattle.scfs_base.specs.declared.cloud.CloudAnswer.{CloudAnswer}
 use Rattle.scfs_base.specs.declared.cloud.CloudRequest.{CloudRequest}
 use Rattle.scfs_base.specs.declared.cloud.CloudRequest.TheVariants as requests
 use Rattle.scfs_schedule.specs.declared.types.Call.{Call}
@@ -11,28 +8,25 @@ use Rattle.scfs_schedule.specs.declared.types.Call.TheVariants as calls
 use Rattle.scfs_schedule.specs.declared.types.Event.{Event}
 use Rattle.scfs_schedule.specs.declared.types.Event.TheVariants as events
 use Rattle.scfs_schedule.specs.declared.types.Line.{Line}
-use Rattle.scfs_schedule.specs.declared.types.Line.TheVariants as lines
 use Rattle.scfs_session.specs.Contents.{bytes_from}
 use Rattle.scfs_machine.specs.Lists.{if_some}
 use Rattle.scfs_machine.specs.Format.{Setup}
-use Rattle.scfs_machine.specs.History.{Message, Of_request, Of_answer}
+use Rattle.scfs_machine.specs.History.{Message}
 use Rattle.scfs_machine.specs.Given.{Given}
 use Rattle.scfs_machine.specs.Sayings.{Saying, Saw, Opened, Made, Looked, Shown, Wrote, Truncated, Ended, Stored, Refused, said_by}
-use Rattle.scfs_machine.specs.Agents.{Agent, Request, Sent, Input, Calls, Tells, Hears, Turns, Reaction}
+use Rattle.scfs_machine.specs.Agents.{Agent, Request, Sent, Input, Calls, Reaction}
 use Rattle.scfs_machine.specs.Reactions.{reacted}
 use Rattle.scfs_machine.specs.Layers.{Row, rows}
-use Rattle.scfs_machine.specs.States.{Reply, Seat, State, Effect, sum_of, request_line, leaving, with_seat, at_seat, did, comes, serves, postpones, tells, gives, answers_by, moves, at_agent, at_space, effect}
-use Rattle.scfs_machine.specs.Held.{Version_seen, Agent_seen, Seen, of_agent, with_reading, after_answer, after_message, seen_line, is_answer, with_close, seen_event}
+use Rattle.scfs_machine.specs.States.{Reply, Seat, State, Effect, request_line, leaving, at_seat, did, comes}
+use Rattle.scfs_machine.specs.Held.{Agent_seen, Seen, of_agent, seen_line, with_close, seen_event}
 use Rattle.scfs_machine.proofs.HeldSeats.{Each, Seated}
 use Rattle.scfs_machine.proofs.HeldSteps.{each_append}
-use Rattle.scfs_machine.proofs.HeldLines.{Becomes, set_there, of_agent_becomes, nothing_becomes, then_becomes, after_doing, IsSaid, IsOwn, lines_become, Does}
+use Rattle.scfs_machine.proofs.HeldLines.{Becomes, of_agent_becomes, nothing_becomes, then_becomes, after_doing, IsSaid, lines_become, Does}
 use Rattle.scfs_machine.proofs.HeldDoing.{seat_of, reacted_does}
 use Rattle.scfs_machine.proofs.HeldCalls.{IsNoClose, call_does}
-use Rattle.scfs_machine.proofs.HeldClosing.{answers_close, Closing, closing}
-use Rattle.scfs_machine.proofs.HeldTold.{tells_does}
+use Rattle.scfs_machine.proofs.HeldClosing.{closing}
 use Rattle.scfs_machine.proofs.HeldVersions.{Tied}
-use Rattle.scfs_machine.proofs.HeldWork.{hears_does, turns_does}
-use Rattle.scfs_machine.proofs.HeldSpace.{IsSeenIn, IsShown, Keeps, get_cases, serves_keeps, postpones_keeps}
+use Rattle.scfs_machine.proofs.HeldSpace.{IsSeenIn, IsShown, Keeps, get_cases}
 
 -- the lines of an agent show only what it says
 
@@ -78,8 +72,8 @@ module _ (s : Setup) (event : Event) (message : Option Message) (bytes : ℕ →
       let after = fold step start (before ++ told ++ sent) in
       let y2 = after_doing s event x.versions r.says r.sent y in
       let becomes : Becomes a x after y2 =
-          then_becomes a x start after first (λ versions z. after_doing s event versions r.says r.sent y) begins
-          (lines_become s event message a y.bytes start before y r.says r.sent goes does.says does.sent) in
+      then_becomes a x start after first (λ versions z. after_doing s event versions r.says r.sent y) begins
+      (lines_become s event message a y.bytes start before y r.says r.sent goes does.says does.sent) in
       record {
         seen = record {
           versions = subst (Tied s state.tree.versions) (sym becomes.versions) is.versions;

@@ -1,14 +1,11 @@
 -- What reads show are the bytes that their sessions hold, whatever the clouds answer.
-use Rattle.std.proofs.Common.{◌≡◌, ℕ, zero, suc, ◌+◌, ◌≤◌, ◌≢◌, List, [], ◌∷◌, ◌++◌, length, replicate, fold, refl, sym, ap, ◌∙◌, subst, arith, true≢false, eq-eqb, eqb-true, slice_get, Bool, true, false, cond, Option, Some, None, Contains}
+use Rattle.std.proofs.Common.{◌≡◌, ℕ, zero, suc, List, [], ◌∷◌, length, replicate, fold, refl, sym, ap, ◌∙◌, subst, arith, true≢false, eq-eqb, eqb-true, slice_get, Bool, true, false, Option, Some, None}
 use Rattle.std.specs.Prelude.{◌==◌}
-use Rattle.std.specs.List.{All, list_any}
+use Rattle.std.specs.List.{All}
 use Rattle.std.proofs.lemmas.List.Elements.{All-nil, All-cons, All-contains}
-use Rattle.scfs_base.specs.declared.naming.RequestNo.{RequestNo}
-use Rattle.scfs_base.specs.declared.cloud.CloudAnswer.{CloudAnswer}
 use Rattle.scfs_schedule.specs.declared.types.Call.TheVariants as calls
 use Rattle.scfs_schedule.specs.declared.types.Event.{Event}
 use Rattle.scfs_schedule.specs.declared.types.Event.TheVariants as events
-use Rattle.scfs_schedule.specs.declared.types.Line.{Line}
 use Rattle.scfs_schedule.specs.declared.types.Line.TheVariants as lines
 use Rattle.scfs_machine.specs.Lists.{if_some}
 use Rattle.scfs_machine.specs.Format.{Setup}
@@ -17,7 +14,7 @@ use Rattle.scfs_machine.specs.Given.{Given, given_of}
 use Rattle.scfs_machine.specs.Agents.{Calls, Tells, Hears, Turns}
 use Rattle.scfs_machine.specs.Layers.{Row, rows}
 use Rattle.scfs_machine.specs.Runs.{actual, effect_after, Happens}
-use Rattle.scfs_machine.specs.States.{Reply, Seat, State, Effect, first_seat, first_state, sum_of, leaving, at_seat, comes, serves, postpones, tells, gives, answers_by, moves, at_agent, at_space, effect}
+use Rattle.scfs_machine.specs.States.{Reply, Seat, State, Effect, first_seat, first_state, sum_of, leaving, at_seat, comes, serves, postpones, tells, gives, answers_by, moves, effect}
 use Rattle.scfs_machine.specs.Held.{Seen, nothing_seen, of_agent, with_reading, after_answer, seen_line, with_close, seen_event, seen, ShowsHeld, ReadsHeld}
 use Rattle.scfs_machine.proofs.HeldSeats.{Each, Seated}
 use Rattle.scfs_machine.proofs.HeldLines.{set_there, of_agent_becomes, nothing_becomes}

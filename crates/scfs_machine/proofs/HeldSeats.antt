@@ -1,12 +1,12 @@
 -- What is seen of an agent, tied to its seat: the machine's sessions, close and opening, and the steps between it and the space.
-use Rattle.std.proofs.Common.{◌≡◌, ℕ, ◌+◌, ◌≤◌, List, [], ◌∷◌, length, Bool, true, find, Option, Some, None, Result, Ok, Err}
+use Rattle.std.proofs.Common.{◌≡◌, ℕ, ◌+◌, ◌≤◌, List, [], ◌∷◌, length, true, find, Option, Some, None, Result, Ok, Err}
 use Rattle.scfs_base.specs.declared.naming.FileId.{FileId}
 use Rattle.scfs_schedule.specs.declared.types.Refusal.{Refusal}
-use Rattle.scfs_machine.specs.Names.{upload_no, upload_name}
+use Rattle.scfs_machine.specs.Names.{upload_no}
 use Rattle.scfs_machine.specs.Format.{Setup, sealed}
 use Rattle.scfs_machine.specs.Reading.{Reading}
 use Rattle.scfs_machine.specs.Storing.{is_enough}
-use Rattle.scfs_machine.specs.SessionSteps.{Session_step, Open_read, Open_write, Commit, Sight, Session_outcome, Sees, Locks, Completes}
+use Rattle.scfs_machine.specs.SessionSteps.{Session_step, Open_read, Open_write, Commit, Session_outcome, Sees, Locks, Completes}
 use Rattle.scfs_machine.specs.Steps.{Step, On_names, On_locks, On_sessions, Outcome, Of_names, Of_locks, Of_sessions}
 use Rattle.scfs_machine.specs.Layers.{Row}
 use Rattle.scfs_machine.specs.Agents.{Waiting, For_step, For_clouds, For_close, Upload, Closed, Request}

@@ -1,30 +1,28 @@
 -- What the space serves leaves what is seen tied to the machine's state.
-use Rattle.std.proofs.Common.{◌≡◌, ℕ, zero, suc, ◌+◌, ◌-◌, ◌≤◌, ◌≢◌, List, [], ◌∷◌, ◌++◌, drop, take, refl, sym, ap, ◌∙◌, subst, arith, ◌⊎◌, inl, inr, fold, slice_get, slice_set, Bool, true, false, Option, Some, None, Result, Ok, Err}
+use Rattle.std.proofs.Common.{◌≡◌, ℕ, zero, suc, ◌+◌, ◌-◌, ◌≢◌, List, [], ◌∷◌, ◌++◌, refl, sym, ap, subst, arith, ◌⊎◌, inl, inr, fold, slice_get, slice_set, Option, Some, None, Ok, Err}
 use Rattle.scfs_base.specs.declared.naming.RequestNo.{RequestNo}
 use Rattle.scfs_schedule.specs.declared.types.Call.TheVariants as calls
 use Rattle.scfs_schedule.specs.declared.types.Event.{Event}
 use Rattle.scfs_schedule.specs.declared.types.Event.TheVariants as events
 use Rattle.scfs_schedule.specs.declared.types.Line.{Line}
 use Rattle.scfs_schedule.specs.declared.types.Line.TheVariants as lines
-use Rattle.scfs_schedule.specs.declared.types.Refusal.{Refusal}
 use Rattle.scfs_session.specs.Contents.{bytes_from}
-use Rattle.scfs_machine.specs.Lists.{moved_back}
 use Rattle.scfs_machine.specs.Format.{Setup}
 use Rattle.scfs_machine.specs.History.{Message}
-use Rattle.scfs_machine.specs.Tree.{Node, Tree, Lock, live, lock_on, session_lock, node_at}
+use Rattle.scfs_machine.specs.Tree.{Node, Tree, live, session_lock, node_at}
 use Rattle.scfs_machine.specs.Walks.{OrRefusal, on_ok, file_at, free_file_at}
-use Rattle.scfs_machine.specs.NameSteps.{Name_outcome, Makes, Shows, name_line, name_outcome, nodes_after}
+use Rattle.scfs_machine.specs.NameSteps.{Name_outcome, Makes, Shows, name_outcome, nodes_after}
 use Rattle.scfs_machine.specs.LockSteps.{Unlock, lock_line, lock_outcome, locks_after}
-use Rattle.scfs_machine.specs.SessionSteps.{Session_step, Open_read, Open_write, Commit, Session_outcome, Sees, Locks, Completes, sight_of, new_lock, still_held, with_version, session_outcome, session_after, session_line}
+use Rattle.scfs_machine.specs.SessionSteps.{Open_read, Open_write, Commit, Sees, Locks, Completes, sight_of, new_lock, still_held, with_version, session_after}
 use Rattle.scfs_machine.specs.Steps.{Step, On_names, On_locks, On_sessions, Outcome, Of_names, Of_locks, Of_sessions, Served, after_ok, line_of, served, served_line}
 use Rattle.scfs_machine.specs.Layers.{Row, rows}
 use Rattle.scfs_machine.specs.Agents.{Agent, Request}
-use Rattle.scfs_machine.specs.States.{Reply, Seat, State, Effect, leaving, skips, with_seat, serves, postpones}
-use Rattle.scfs_machine.specs.Held.{Close_seen, Version_seen, Agent_seen, Seen, seen_line}
-use Rattle.scfs_machine.proofs.HeldSeats.{Each, IsRow, OutcomeFits, RequestFits, Fits, busy, busy_asked, step_of, busy_replied, Between, Seated}
+use Rattle.scfs_machine.specs.States.{Reply, Seat, State, Effect, leaving, with_seat, serves, postpones}
+use Rattle.scfs_machine.specs.Held.{Version_seen, Seen, seen_line}
+use Rattle.scfs_machine.proofs.HeldSeats.{Each, IsRow, OutcomeFits, RequestFits, Fits, step_of, Seated}
 use Rattle.scfs_machine.proofs.HeldSteps.{each_append, asked_append}
 use Rattle.scfs_machine.proofs.HeldDoing.{seat_of}
-use Rattle.scfs_machine.proofs.HeldVersions.{IsVersion, Tied, tied_append, tied_found, seated_more, served_seated}
+use Rattle.scfs_machine.proofs.HeldVersions.{Tied, tied_append, tied_found, seated_more, served_seated}
 
 -- what is seen is so in the machine's state
 pub record IsSeenIn (s : Setup) (x : Seen) (state : State Row) : Type 0 where

@@ -1,15 +1,13 @@
 -- The steps between an agent and the space where more are asked or what the agent waits for changes.
-use Rattle.std.proofs.Common.{◌≡◌, ℕ, zero, suc, ◌+◌, ◌≤◌, List, [], ◌∷◌, ◌++◌, refl, sym, ap, ◌∙◌, subst, append-nil, arith, find, cond, Bool, true, false, Option, Some, None, Result, Ok, Err}
-use Rattle.scfs_base.specs.declared.naming.FileId.{FileId}
-use Rattle.scfs_schedule.specs.declared.types.Refusal.{Refusal}
+use Rattle.std.proofs.Common.{◌≡◌, ℕ, ◌+◌, ◌≤◌, List, [], ◌∷◌, ◌++◌, refl, sym, subst, append-nil, arith, Option}
 use Rattle.scfs_machine.specs.Format.{Setup}
-use Rattle.scfs_machine.specs.SessionSteps.{Session_step, Open_read, Open_write, Commit, Session_outcome, Sees, Locks, Completes}
-use Rattle.scfs_machine.specs.Steps.{Step, On_names, On_locks, On_sessions, Outcome, Of_names, Of_locks, Of_sessions}
+use Rattle.scfs_machine.specs.SessionSteps.{Session_step, Open_read, Open_write, Commit}
+use Rattle.scfs_machine.specs.Steps.{Step, On_names, On_locks, On_sessions}
 use Rattle.scfs_machine.specs.Layers.{Row}
 use Rattle.scfs_machine.specs.Agents.{Waiting, Closed, Request}
-use Rattle.scfs_machine.specs.States.{Reply, Seat}
-use Rattle.scfs_machine.specs.Held.{Close_seen, Version_seen, Agent_seen, is_version}
-use Rattle.scfs_machine.proofs.HeldSeats.{Each, IsStepping, IsCommitting, IsSeen, ResultFits, OutcomeFits, SessionFits, Fits, busy, busy_asked, step_of, busy_replied, RequestFits, ReplyFits, Between, Seated}
+use Rattle.scfs_machine.specs.States.{Reply}
+use Rattle.scfs_machine.specs.Held.{Close_seen, Version_seen}
+use Rattle.scfs_machine.proofs.HeldSeats.{Each, IsStepping, IsCommitting, SessionFits, Fits, busy, busy_asked, step_of, busy_replied, RequestFits, ReplyFits, Between}
 
 pub each_append : {X : Type 0} (P : X → Type 0) (xs ys : List X) → Each P xs → Each P ys → Each P (xs ++ ys)
 each_append P [] ys h k = k

@@ -1,23 +1,20 @@
 -- What an agent is told of its steps leaves what is seen of it tied to its seat.
-use Rattle.std.proofs.Common.{◌≡◌, ℕ, ◌+◌, ◌≤◌, List, [], ◌∷◌, ◌++◌, refl, arith, Bool, true, false, cond, Option, Some, None, Result, Ok, Err}
+use Rattle.std.proofs.Common.{◌≡◌, ℕ, ◌+◌, ◌≤◌, List, [], ◌∷◌, ◌++◌, arith, true, false, Option, Some, None, Ok, Err}
 use Rattle.scfs_base.specs.declared.naming.RequestNo.{RequestNo}
 use Rattle.scfs_schedule.specs.declared.types.Event.{Event}
-use Rattle.scfs_schedule.specs.declared.types.Refusal.{Refusal}
 use Rattle.scfs_machine.specs.Format.{Setup}
 use Rattle.scfs_machine.specs.Given.{Given}
-use Rattle.scfs_machine.specs.Lists.{without_first}
-use Rattle.scfs_machine.specs.Names.{same_request}
 use Rattle.scfs_machine.specs.Walks.{OrRefusal}
 use Rattle.scfs_machine.specs.NameSteps.{Name_outcome, Makes, Shows}
 use Rattle.scfs_machine.specs.SessionSteps.{Session_step, Open_read, Open_write, Commit, Session_outcome, Sees, Locks, Completes}
 use Rattle.scfs_machine.specs.Steps.{Outcome, Of_names, Of_locks, Of_sessions}
 use Rattle.scfs_machine.specs.Sayings.{Saying, Saw, Opened, Made, Looked, Shown, Wrote, Truncated, Ended, Stored, Refused}
-use Rattle.scfs_machine.specs.Agents.{Waiting, For_step, For_clouds, For_close, Closed, Request, Agent, Reaction, silent, answered}
+use Rattle.scfs_machine.specs.Agents.{Waiting, For_step, For_clouds, For_close, Closed, Request, Agent, answered}
 use Rattle.scfs_machine.specs.Told.{name_answer, is_pending, untold, told_open, told_closed, told_commit, told_sessions, told, tells}
 use Rattle.scfs_machine.specs.Layers.{Row, rows}
 use Rattle.scfs_machine.specs.States.{Reply}
 use Rattle.scfs_machine.specs.Held.{Version_seen, Agent_seen}
-use Rattle.scfs_machine.proofs.HeldSeats.{Each, IsRow, IsStepping, IsCommitting, ResultFits, OutcomeFits, SessionFits, Fits, Waits, busy, busy_asked, step_of, busy_replied, Between, Seated}
+use Rattle.scfs_machine.proofs.HeldSeats.{IsStepping, IsCommitting, ResultFits, OutcomeFits, SessionFits, Fits, busy, busy_asked, step_of, busy_replied, Between, Seated}
 use Rattle.scfs_machine.proofs.HeldSteps.{none_asked, any_change}
 use Rattle.scfs_machine.proofs.HeldLines.{Does}
 use Rattle.scfs_machine.proofs.HeldDoing.{at, seat_of, silent_does, either_does}

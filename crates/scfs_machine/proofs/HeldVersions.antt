@@ -1,5 +1,5 @@
 -- The versions of the tree and those seen stand one for one; more versions leave what is seen of an agent tied to its seat.
-use Rattle.std.proofs.Common.{◌≡◌, ℕ, ◌+◌, ◌≤◌, List, [], ◌∷◌, ◌++◌, find, refl, sym, ap, ◌∙◌, subst, arith, Bool, true, false, cond, ◌&&◌, Option, Some, None, Result, Ok, Err}
+use Rattle.std.proofs.Common.{◌≡◌, ℕ, List, [], ◌∷◌, ◌++◌, find, sym, ap, ◌∙◌, subst, arith, Bool, true, false, cond, ◌&&◌, Option, Some, None, Result, Ok, Err}
 use Rattle.std.specs.Prelude.{◌==◌}
 use Rattle.scfs_base.specs.declared.naming.FileId.{FileId}
 use Rattle.scfs_schedule.specs.declared.types.Refusal.{Refusal}
@@ -12,7 +12,7 @@ use Rattle.scfs_machine.specs.Layers.{Row, rows}
 use Rattle.scfs_machine.specs.Agents.{Agent, Request}
 use Rattle.scfs_machine.specs.States.{Reply, Seat}
 use Rattle.scfs_machine.specs.Held.{Version_seen, Agent_seen, is_version}
-use Rattle.scfs_machine.proofs.HeldSeats.{Each, IsRow, IsSeen, ResultFits, OutcomeFits, ReplyFits, Fits, busy, busy_asked, step_of, busy_replied, Between, Seated}
+use Rattle.scfs_machine.proofs.HeldSeats.{IsRow, IsSeen, ResultFits, OutcomeFits, ReplyFits, Fits, busy, step_of, Seated}
 use Rattle.scfs_machine.proofs.HeldSteps.{each_append, each_weaker, replied_append}
 use Rattle.scfs_machine.proofs.HeldDoing.{seat_of}
 

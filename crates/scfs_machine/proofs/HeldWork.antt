@@ -1,23 +1,21 @@
 -- Answers of clouds and turns leave what is seen of an agent tied to its seat.
-use Rattle.std.proofs.Common.{◌≡◌, ℕ, ◌+◌, ◌≤◌, List, [], ◌∷◌, ◌++◌, length, refl, sym, ap, ◌∙◌, subst, Bool, true, false, cond, Option, Some, None, is_some}
-use Rattle.std.specs.Prelude.{◌==◌}
+use Rattle.std.proofs.Common.{◌≡◌, ℕ, ◌+◌, List, [], ◌∷◌, refl, sym, ap, subst, Bool, true, false, cond, Option, Some, None, is_some}
 use Rattle.scfs_base.specs.declared.naming.RequestNo.{RequestNo}
 use Rattle.scfs_base.specs.declared.cloud.CloudAnswer.{CloudAnswer}
 use Rattle.scfs_schedule.specs.declared.types.Event.{Event}
-use Rattle.scfs_unit.specs.declared.pieces.KeptPiece.{KeptPiece}
 use Rattle.scfs_machine.specs.Format.{Setup}
 use Rattle.scfs_machine.specs.Next.{Next, Goes_on, Asks, Has, Gives_up}
 use Rattle.scfs_machine.specs.Reading.{Reading, is_awaited, piece_in, with_piece, read_on, read_turn}
 use Rattle.scfs_machine.specs.LockSteps.{Unlock}
 use Rattle.scfs_machine.specs.Steps.{On_locks}
-use Rattle.scfs_machine.specs.Agents.{Opening, Waiting, For_step, For_clouds, For_close, Upload, Closed, Request, Agent, Reaction, silent, followed, asks_step}
+use Rattle.scfs_machine.specs.Agents.{Opening, Waiting, For_step, For_clouds, For_close, Upload, Closed, Request, Agent, Reaction, silent, asks_step}
 use Rattle.scfs_machine.specs.Opens.{tallied, reads, takes, open_hears, open_turns}
 use Rattle.scfs_machine.specs.Closes.{upload_hears, upload_turns}
-use Rattle.scfs_machine.specs.Reactions.{to_open, to_closed, to_upload, to_work, hears, turns}
+use Rattle.scfs_machine.specs.Reactions.{to_closed, to_upload, to_work, hears, turns}
 use Rattle.scfs_machine.specs.Layers.{Row, rows}
 use Rattle.scfs_machine.specs.States.{Reply}
-use Rattle.scfs_machine.specs.Held.{Close_seen, Version_seen, Agent_seen, with_reading, after_answer}
-use Rattle.scfs_machine.proofs.HeldSeats.{IsEmpty, Uploads, Closes, Waits, Seated}
+use Rattle.scfs_machine.specs.Held.{Version_seen, Agent_seen, with_reading, after_answer}
+use Rattle.scfs_machine.proofs.HeldSeats.{Seated}
 use Rattle.scfs_machine.proofs.HeldLines.{Does}
 use Rattle.scfs_machine.proofs.HeldDoing.{at, seat_of, silent_does, followed_silent}
 use Rattle.scfs_machine.proofs.HeldOpens.{open_hears_does, open_turns_does}
