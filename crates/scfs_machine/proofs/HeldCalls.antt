@@ -18,7 +18,7 @@ use Rattle.scfs_machine.specs.SessionSteps.{Session_step, Open_read, Open_write}
 use Rattle.scfs_machine.specs.Steps.{Step, On_names, On_sessions}
 use Rattle.scfs_machine.specs.Sayings.{Saying}
 use Rattle.scfs_machine.specs.Sayings as says
-use Rattle.scfs_machine.specs.Agents.{Waiting, For_step, Closed, Request, Agent, saying}
+use Rattle.scfs_machine.specs.Agents.{Waiting, For_step, Closed, Request, Agent, saying, Reaction}
 use Rattle.scfs_machine.specs.Calls.{any_names, path_names, with_session, calls_step, opens, called, call_of}
 use Rattle.scfs_machine.specs.Layers.{Row}
 use Rattle.scfs_machine.specs.States.{Reply}
@@ -77,9 +77,16 @@ IsNoClose (calls.Close h) = ⊥
 IsNoClose other = Unit {0}
 
 module _ (s : Setup) (a : ℕ) (versions : List Version_seen) (y : Agent_seen) (asked : List (Request Row)) (replied : List (Reply Row)) where
+  -- what is seen is tied to the seat of the agent when it is this, and after a reaction in an event
+  abbrev Sits : Agent Row → Type 0
+  Sits agent = Seated s versions a y (seat_of agent asked replied)
+
+  abbrev Doing : Event → Reaction Row → Type 0
+  Doing event r = Does s event a versions y asked replied r
+
   -- a step is asked for a call
-  calls_does : (event : Event) (agent : Agent Row) (step : Step Row) → Seated s versions a y (seat_of (at agent None []) asked replied)
-      → Fits s y.close (Some For_step) [] step → Does s event a versions y asked replied (calls_step a (at agent None []) step)
+  calls_does : (event : Event) (agent : Agent Row) (step : Step Row) → Sits (at agent None [])
+      → Fits s y.close (Some For_step) [] step → Doing event (calls_step a (at agent None []) step)
   calls_does event agent step is fits =
       let none = all_idle s a versions y.close y.close None (Some For_step) [] [] asked replied (λ e. e) (λ e. e) is.steps in
       let few = busy_once step in
@@ -91,8 +98,8 @@ module _ (s : Setup) (a : ℕ) (versions : List Version_seen) (y : Agent_seen) (
         steps = any_change s a versions y.close y.close None (Some For_step) [] [] asked replied none is.steps;
       }) (omega (arith, none, few)) fits
 
-  opens_does : (event : Event) (agent : Agent Row) (step : (session : ℕ) → Session_step Row) → Seated s versions a y (seat_of (at agent None []) asked replied)
-      → Fits s y.close (Some For_step) [] (On_sessions (step (agent.opens + 1))) → Does s event a versions y asked replied (opens a (at agent None []) step)
+  opens_does : (event : Event) (agent : Agent Row) (step : (session : ℕ) → Session_step Row) → Sits (at agent None [])
+      → Fits s y.close (Some For_step) [] (On_sessions (step (agent.opens + 1))) → Doing event (opens a (at agent None []) step)
   opens_does event agent step is fits =
       either_does s event a versions y asked replied (nat_lt (length agent.sessions + 0) handles_limit) _ _
       (calls_does event (record agent { opens = agent.opens + 1 }) (On_sessions (step (agent.opens + 1))) (record {
@@ -105,7 +112,7 @@ module _ (s : Setup) (a : ℕ) (versions : List Version_seen) (y : Agent_seen) (
       (refuse_does s event a versions y asked replied (at agent None []) refusals.TooManyHandles is)
 
   changing_does : (call : Call) (agent : Agent Row) (h end : ℕ) (change : List ℕ → List ℕ) (z : Saying) (next : Session)
-      → Seated s versions a y (seat_of (at agent None []) asked replied)
+      → Sits (at agent None [])
       → changed (session_of agent.sessions h) end change ≡ Ok next → edited (events.Call a call) (y.bytes h) ≡ change (y.bytes h)
       → Seated s versions a (with_bytes h (edited (events.Call a call) (y.bytes h)) y) (seat_of (with_session (at agent None []) h next) (asked ++ []) replied)
   changing_does call agent h end change z next is made same = record {
@@ -119,8 +126,8 @@ module _ (s : Setup) (a : ℕ) (versions : List Version_seen) (y : Agent_seen) (
     steps = none_asked s a versions y.close None [] asked replied is.steps;
   }
 
-  pub ended_does : (event : Event) (agent : Agent Row) (h : ℕ) → Seated s versions a y (seat_of (at agent None []) asked replied)
-      → Does s event a versions y asked replied (saying (record agent { waiting = None; closed = []; sessions = ended agent.sessions h }) (says.Ended h))
+  pub ended_does : (event : Event) (agent : Agent Row) (h : ℕ) → Sits (at agent None [])
+      → Doing event (saying (record agent { waiting = None; closed = []; sessions = ended agent.sessions h }) (says.Ended h))
   ended_does event agent h is = record {
     seated = record {
       sessions = held_ended y.bytes agent.sessions h is.sessions;
@@ -134,8 +141,8 @@ module _ (s : Setup) (a : ℕ) (versions : List Version_seen) (y : Agent_seen) (
   }
 
   -- a call that is not a close
-  called_does : (agent : Agent Row) (call : Call) → Seated s versions a y (seat_of (at agent None []) asked replied) → IsNoClose call
-      → Does s (events.Call a call) a versions y asked replied (called a s (at agent None []) call)
+  called_does : (agent : Agent Row) (call : Call) → Sits (at agent None []) → IsNoClose call
+      → Doing (events.Call a call) (called a s (at agent None []) call)
   called_does agent (calls.Create path) is kind =
       unless_does s (events.Call a (calls.Create path)) a versions y asked replied (at agent None []) (path_names s path) _ is (λ names made.
       calls_does (events.Call a (calls.Create path)) (record agent { files = agent.files + 1 })
@@ -186,8 +193,8 @@ module _ (s : Setup) (a : ℕ) (versions : List Version_seen) (y : Agent_seen) (
 
   -- with a call that is unanswered, or none
   pub call_does : (agent : Agent Row) (waiting : Option (Waiting Row)) (closed : List (Closed Row)) (call : Call) → IsNoClose call
-      → Seated s versions a y (seat_of (at agent waiting closed) asked replied)
-      → Does s (events.Call a call) a versions y asked replied (call_of a s (at agent waiting closed) call waiting)
+      → Sits (at agent waiting closed)
+      → Doing (events.Call a call) (call_of a s (at agent waiting closed) call waiting)
   call_does agent None [] call kind is = called_does agent call is kind
   call_does agent None (x ∷ rest) call kind is = absurd is.waits
   call_does agent (Some waiting) closed call kind is =

@@ -13,7 +13,7 @@ use Rattle.scfs_machine.specs.Storing.{is_enough, with_ack, store_on, is_new_ack
 use Rattle.scfs_machine.specs.LockSteps.{Unlock}
 use Rattle.scfs_machine.specs.SessionSteps.{Commit}
 use Rattle.scfs_machine.specs.Steps.{On_locks, On_sessions}
-use Rattle.scfs_machine.specs.Agents.{For_close, Closed, Upload, Request, Agent, next_asked, asks_clouds}
+use Rattle.scfs_machine.specs.Agents.{For_close, Closed, Upload, Request, Agent, next_asked, asks_clouds, Reaction}
 use Rattle.scfs_machine.specs.Closes.{with_storing, stores, upload_hears, upload_turns}
 use Rattle.scfs_machine.specs.Layers.{Row}
 use Rattle.scfs_machine.specs.States.{Reply}
@@ -33,8 +33,15 @@ pub record IsFurther (s : Setup) (u later : Upload Row) : Type 0 where
   pub stored : is_enough s u.storing ≡ true → is_enough s later.storing ≡ true
 
 module _ (s : Setup) (event : Event) (a : ℕ) (versions : List Version_seen) (y : Agent_seen) (asked : List (Request Row)) (replied : List (Reply Row)) where
-  further : (agent : Agent Row) (x : Closed Row) (u later : Upload Row) → IsFurther s u later → Seated s versions a y (seat_of (uploading agent x u) asked replied)
-      → Seated s versions a y (seat_of (uploading agent x later) asked replied)
+  -- what is seen is tied to the seat of the agent when it is this, and after a reaction
+  abbrev Sits : Agent Row → Type 0
+  Sits agent = Seated s versions a y (seat_of agent asked replied)
+
+  abbrev Doing : Reaction Row → Type 0
+  Doing r = Does s event a versions y asked replied r
+
+  further : (agent : Agent Row) (x : Closed Row) (u later : Upload Row) → IsFurther s u later → Sits (uploading agent x u)
+      → Sits (uploading agent x later)
   further agent x u later so is = record {
     sessions = is.sessions;
     incarnation = is.incarnation;
@@ -45,8 +52,8 @@ module _ (s : Setup) (event : Event) (a : ℕ) (versions : List Version_seen) (y
   }
 
   -- requests that read nothing are made of clouds
-  pub puts_does : (agent : Agent Row) (clouds : List ℕ) (name : List ℕ) (body : ℕ → List ℕ) → Seated s versions a y (seat_of agent asked replied)
-      → Does s event a versions y asked replied (asks_clouds agent (next_asked a agent clouds) (λ c. requests.Put name (body c)))
+  pub puts_does : (agent : Agent Row) (clouds : List ℕ) (name : List ℕ) (body : ℕ → List ℕ) → Sits agent
+      → Doing (asks_clouds agent (next_asked a agent clouds) (λ c. requests.Put name (body c)))
   puts_does agent clouds name body is =
       let made = next_asked a agent clouds in
       record {
@@ -63,13 +70,13 @@ module _ (s : Setup) (event : Event) (a : ℕ) (versions : List Version_seen) (y
       }
 
   goes_on_does : (agent : Agent Row) (x : Closed Row) (u later : Upload Row) → IsFurther s u later
-      → Seated s versions a y (seat_of (uploading agent x u) asked replied)
-      → Does s event a versions y asked replied (stores s a (at agent (Some For_close) []) x later Goes_on)
+      → Sits (uploading agent x u)
+      → Doing (stores s a (at agent (Some For_close) []) x later Goes_on)
   goes_on_does agent x u later so is = silent_does s event a versions y asked replied (uploading agent x later) (further agent x u later so is)
 
   asks_puts_does : (agent : Agent Row) (x : Closed Row) (u later : Upload Row) (clouds : List ℕ) → IsFurther s u later
-      → Seated s versions a y (seat_of (uploading agent x u) asked replied)
-      → Does s event a versions y asked replied (stores s a (at agent (Some For_close) []) x later (Asks clouds))
+      → Sits (uploading agent x u)
+      → Doing (stores s a (at agent (Some For_close) []) x later (Asks clouds))
   asks_puts_does agent x u later clouds so is =
       let puts = next_asked a agent clouds in
       let next = with_storing later (record later.storing { puts = later.storing.puts ++ puts }) in
@@ -78,7 +85,7 @@ module _ (s : Setup) (event : Event) (a : ℕ) (versions : List Version_seen) (y
 
   -- no commit was asked as long as not enough clouds acknowledged
   none_commits : (agent : Agent Row) (x : Closed Row) (u : Upload Row) → is_enough s u.storing ≡ false
-      → Seated s versions a y (seat_of (uploading agent x u) asked replied) → busy_asked asked + busy_replied replied ≡ 0
+      → Sits (uploading agent x u) → busy_asked asked + busy_replied replied ≡ 0
   none_commits agent x u short is =
       all_idle s a versions y.close y.close (Some For_close) None ((record x { upload = Some u }) ∷ []) [] asked replied (λ e. e)
       (λ enough. short_enough (is_enough s u.storing) short enough) is.steps
@@ -94,16 +101,16 @@ module _ (s : Setup) (event : Event) (a : ℕ) (versions : List Version_seen) (y
           differ e = cc
 
   commits_does : (agent : Agent Row) (x : Closed Row) (u later : Upload Row) → IsFurther s u later → is_enough s u.storing ≡ false
-      → is_enough s later.storing ≡ true → Seated s versions a y (seat_of (uploading agent x u) asked replied)
-      → Does s event a versions y asked replied (stores s a (at agent (Some For_close) []) x later (Has tt))
+      → is_enough s later.storing ≡ true → Sits (uploading agent x u)
+      → Doing (stores s a (at agent (Some For_close) []) x later (Has tt))
   commits_does agent x u later so short enough is =
       let none = none_commits agent x u short is in let next = further agent x u later so is in
       asks_does s event a versions y asked replied (uploading agent x later) (On_sessions (Commit x.number later.version)) next
       (omega (arith, none)) (enough, next.waits)
 
   falls_short_does : (agent : Agent Row) (x : Closed Row) (u later : Upload Row) (acks : ℕ) → is_enough s u.storing ≡ false
-      → Seated s versions a y (seat_of (uploading agent x u) asked replied)
-      → Does s event a versions y asked replied (stores s a (at agent (Some For_close) []) x later (Gives_up acks))
+      → Sits (uploading agent x u)
+      → Doing (stores s a (at agent (Some For_close) []) x later (Gives_up acks))
   falls_short_does agent x u later acks short is =
       let none = none_commits agent x u short is in
       let given_back = asks_does s event a versions y asked replied (at agent None []) (On_locks (Unlock x.session.file x.number)) (record {
@@ -117,8 +124,8 @@ module _ (s : Setup) (event : Event) (a : ℕ) (versions : List Version_seen) (y
 
   -- a cloud's answer comes
   heard_within : (agent : Agent Row) (x : Closed Row) (u : Upload Row) (c : ℕ) (b : Bool) → (length u.storing.acked + 1 == enough s) ≡ b
-      → Seated s versions a y (seat_of (uploading agent x u) asked replied)
-      → Does s event a versions y asked replied (stores s a (at agent (Some For_close) []) x (with_storing u (with_ack u.storing c)) (cond b (Has tt) Goes_on))
+      → Sits (uploading agent x u)
+      → Doing (stores s a (at agent (Some For_close) []) x (with_storing u (with_ack u.storing c)) (cond b (Has tt) Goes_on))
   heard_within agent x u c true just is =
       let sum = length-append u.storing.acked (c ∷ []) in
       let all = eqb-true (length u.storing.acked + 1) (enough s) just in
@@ -139,28 +146,28 @@ module _ (s : Setup) (event : Event) (a : ℕ) (versions : List Version_seen) (y
       goes_on_does agent x u (with_storing u (with_ack u.storing c))
       (record { version = refl; stored = λ e. le-leb (enough s) _ (let before = leb-true (enough s) (length u.storing.acked) e in omega (arith, sum, before)) }) is
 
-  hears_within : (agent : Agent Row) (x : Closed Row) (u : Upload Row) (c : ℕ) (b : Bool) → Seated s versions a y (seat_of (uploading agent x u) asked replied)
-      → Does s event a versions y asked replied (cond b (stores s a (at agent (Some For_close) []) x (with_storing u (with_ack u.storing c)) (store_on s u.storing))
+  hears_within : (agent : Agent Row) (x : Closed Row) (u : Upload Row) (c : ℕ) (b : Bool) → Sits (uploading agent x u)
+      → Doing (cond b (stores s a (at agent (Some For_close) []) x (with_storing u (with_ack u.storing c)) (store_on s u.storing))
       (stores s a (at agent (Some For_close) []) x u Goes_on))
   hears_within agent x u c true is = heard_within agent x u c (length u.storing.acked + 1 == enough s) refl is
   hears_within agent x u c false is = goes_on_does agent x u u (record { version = refl; stored = λ e. e }) is
 
   pub upload_hears_does : (agent : Agent Row) (x : Closed Row) (u : Upload Row) (c : ℕ) (request : RequestNo) (answer : CloudAnswer)
-      → Seated s versions a y (seat_of (uploading agent x u) asked replied)
-      → Does s event a versions y asked replied (upload_hears s a (at agent (Some For_close) []) x u c request answer)
+      → Sits (uploading agent x u)
+      → Doing (upload_hears s a (at agent (Some For_close) []) x u c request answer)
   upload_hears_does agent x u c request answer is = hears_within agent x u c (is_new_ack u.storing c request answer) is
 
   -- a turn comes
   turned_within : (agent : Agent Row) (x : Closed Row) (u later : Upload Row) (all last : Bool) (acks : ℕ) (clouds : List ℕ) → is_enough s u.storing ≡ all
-      → IsFurther s u later → Seated s versions a y (seat_of (uploading agent x u) asked replied)
+      → IsFurther s u later → Sits (uploading agent x u)
       → Does s event a versions y asked replied
       (stores s a (at agent (Some For_close) []) x later (cond all Goes_on (cond last (Gives_up acks) (Asks clouds))))
   turned_within agent x u later true last acks clouds all so is = goes_on_does agent x u later so is
   turned_within agent x u later false true acks clouds all so is = falls_short_does agent x u later acks all is
   turned_within agent x u later false false acks clouds all so is = asks_puts_does agent x u later clouds so is
 
-  pub upload_turns_does : (agent : Agent Row) (x : Closed Row) (u : Upload Row) → Seated s versions a y (seat_of (uploading agent x u) asked replied)
-      → Does s event a versions y asked replied (upload_turns s a (at agent (Some For_close) []) x u)
+  pub upload_turns_does : (agent : Agent Row) (x : Closed Row) (u : Upload Row) → Sits (uploading agent x u)
+      → Doing (upload_turns s a (at agent (Some For_close) []) x u)
   upload_turns_does agent x u is =
       turned_within agent x u (with_storing u (record u.storing { turns = u.storing.turns + 1 })) (is_enough s u.storing) (u.storing.turns + 1 == turns_limit)
       (length u.storing.acked) (filter (λ c. not (is_in c u.storing.acked)) (below (clouds_of s))) refl (record { version = refl; stored = λ e. e }) is

@@ -51,6 +51,10 @@ row_is s z mine other bytes same held = record {
 }
 
 module _ (s : Setup) (event : Event) (a : ℕ) (versions : List Version_seen) (y : Agent_seen) (asked : List (Request Row)) (replied : List (Reply Row)) (given : Given) (h : ℕ) where
+  -- what is seen is tied to the seat of the agent when it is this
+  abbrev Sits : Agent Row → Type 0
+  Sits agent = Seated s versions a y (seat_of agent asked replied)
+
   -- what a reaction is to a close
   abbrev pub Closing : Reaction Row → Type 0
   Closing r =
@@ -65,7 +69,7 @@ module _ (s : Setup) (event : Event) (a : ℕ) (versions : List Version_seen) (y
   begun_by agent z =
       begins s rows a (record (left agent) { waiting = Some For_close; closed = [] }) (record { number = h; session = z; upload = None })
 
-  writes_does : (agent : Agent Row) (z : Session) → session_of agent.sessions h ≡ Some z → Seated s versions a y (seat_of (at agent None []) asked replied)
+  writes_does : (agent : Agent Row) (z : Session) → session_of agent.sessions h ≡ Some z → Sits (at agent None [])
       → Does s event a versions (with_close a h y) asked replied (begun_by agent z)
   writes_does agent z there is =
       let number = upload_no a agent.incarnation (agent.uploads + 1) in
@@ -91,14 +95,14 @@ module _ (s : Setup) (event : Event) (a : ℕ) (versions : List Version_seen) (y
         steps = any_change s a versions y.close close None (Some For_close) [] (x ∷ []) asked replied none is.steps;
       })
 
-  refused_closing : (agent : Agent Row) (why : Refusal) → Seated s versions a y (seat_of agent asked replied)
+  refused_closing : (agent : Agent Row) (why : Refusal) → Sits agent
       → (next_begun s rows a agent agent.closed ≡ silent agent) → Closing (followed (refuse agent why) (λ next. next_begun s rows a next next.closed))
   refused_closing agent why is still =
       subst Closing (sym (followed_silent (refuse agent why) (λ next. next_begun s rows a next next.closed) still))
       (inl (refl, refuse_does s event a versions y asked replied agent why is))
 
   ends_closing : (agent : Agent Row) (z : Session) (writes : Bool) → session_of agent.sessions h ≡ Some z
-      → Seated s versions a y (seat_of (at agent None []) asked replied)
+      → Sits (at agent None [])
       → Closing (followed (cond writes (closes (left agent) h z) (saying (left agent) (says.Ended h))) (λ next. next_begun s rows a next next.closed))
   ends_closing agent z true there is =
       let puts = next_asked a (record agent { uploads = agent.uploads + 1 }) (below (clouds_of s)) in
@@ -113,13 +117,13 @@ module _ (s : Setup) (event : Event) (a : ℕ) (versions : List Version_seen) (y
       inl (refl, record { seated = does.seated; says = does.says; sent = does.sent })
 
   close_closing : (agent : Agent Row) (there : Option Session) → session_of agent.sessions h ≡ there
-      → Seated s versions a y (seat_of (at agent None []) asked replied)
+      → Sits (at agent None [])
       → Closing (followed (close (at agent None []) h there) (λ next. next_begun s rows a next next.closed))
   close_closing agent None there is = refused_closing (at agent None []) refusals.BadHandle is refl
   close_closing agent (Some z) there is = ends_closing agent z z.writes there is
 
   pub closing : (agent : Agent Row) (waiting : Option (Waiting Row)) (closed : List (Closed Row))
-      → Seated s versions a y (seat_of (at agent waiting closed) asked replied)
+      → Sits (at agent waiting closed)
       → Closing (reacted s rows a (at agent waiting closed) given (Calls (calls.Close h)))
   closing agent None [] is = close_closing agent (session_of agent.sessions h) refl is
   closing agent None (x ∷ rest) is = absurd is.waits

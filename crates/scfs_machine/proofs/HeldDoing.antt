@@ -29,7 +29,14 @@ abbrev pub seat_of : Agent Row → List (Request Row) → List (Reply Row) → S
 seat_of agent asked replied = record { agent = agent; asked = asked; replied = replied }
 
 module _ (s : Setup) (event : Event) (a : ℕ) (versions : List Version_seen) (y : Agent_seen) (asked : List (Request Row)) (replied : List (Reply Row)) where
-  pub says_none : (agent : Agent Row) → Seated s versions a y (seat_of agent asked replied) → Seated s versions a y (seat_of agent (asked ++ []) replied)
+  -- what is seen is tied to the seat of the agent when it is this, and after a reaction
+  abbrev pub Sits : Agent Row → Type 0
+  Sits agent = Seated s versions a y (seat_of agent asked replied)
+
+  abbrev pub Doing : Reaction Row → Type 0
+  Doing r = Does s event a versions y asked replied r
+
+  pub says_none : (agent : Agent Row) → Sits agent → Seated s versions a y (seat_of agent (asked ++ []) replied)
   says_none agent is = record {
     sessions = is.sessions;
     incarnation = is.incarnation;
@@ -38,17 +45,17 @@ module _ (s : Setup) (event : Event) (a : ℕ) (versions : List Version_seen) (y
     steps = none_asked s a versions y.close agent.waiting agent.closed asked replied is.steps;
   }
 
-  pub silent_does : (agent : Agent Row) → Seated s versions a y (seat_of agent asked replied) → Does s event a versions y asked replied (silent agent)
+  pub silent_does : (agent : Agent Row) → Sits agent → Doing (silent agent)
   silent_does agent is = record { seated = says_none agent is; says = tt; sent = tt }
 
-  pub refuse_does : (agent : Agent Row) (why : Refusal) → Seated s versions a y (seat_of agent asked replied)
-      → Does s event a versions y asked replied (refuse agent why)
+  pub refuse_does : (agent : Agent Row) (why : Refusal) → Sits agent
+      → Doing (refuse agent why)
   refuse_does agent why is = record { seated = says_none agent is; says = (tt, tt); sent = tt }
 
   -- a step is asked
-  pub asks_does : (agent : Agent Row) (step : Step Row) → Seated s versions a y (seat_of agent asked replied)
+  pub asks_does : (agent : Agent Row) (step : Step Row) → Sits agent
       → busy step + (busy_asked asked + busy_replied replied) ≤ 1 → Fits s y.close agent.waiting agent.closed step
-      → Does s event a versions y asked replied (asks_step a agent step)
+      → Doing (asks_step a agent step)
   asks_does agent step is few fits = record {
     seated = record {
       sessions = is.sessions;
@@ -61,13 +68,13 @@ module _ (s : Setup) (event : Event) (a : ℕ) (versions : List Version_seen) (y
     sent = tt;
   }
 
-  pub unless_does : {X : Type 0} (agent : Agent Row) (r : Result X Refusal) (on : X → Reaction Row) → Seated s versions a y (seat_of agent asked replied)
-      → ((x : X) → r ≡ Ok x → Does s event a versions y asked replied (on x)) → Does s event a versions y asked replied (unless_refused agent r on)
+  pub unless_does : {X : Type 0} (agent : Agent Row) (r : Result X Refusal) (on : X → Reaction Row) → Sits agent
+      → ((x : X) → r ≡ Ok x → Doing (on x)) → Doing (unless_refused agent r on)
   unless_does agent (Ok x) on is each = each x refl
   unless_does agent (Err why) on is each = refuse_does agent why is
 
-  pub either_does : (b : Bool) (first second : Reaction Row) → Does s event a versions y asked replied first → Does s event a versions y asked replied second
-      → Does s event a versions y asked replied (cond b first second)
+  pub either_does : (b : Bool) (first second : Reaction Row) → Doing first → Doing second
+      → Doing (cond b first second)
   either_does true first second h k = h
   either_does false first second h k = k
 

@@ -22,7 +22,7 @@ use Rattle.scfs_machine.specs.Reading.{Reading, is_good, is_awaited, piece_in, w
 use Rattle.scfs_machine.specs.LockSteps.{Unlock}
 use Rattle.scfs_machine.specs.SessionSteps.{Sight}
 use Rattle.scfs_machine.specs.Steps.{On_locks}
-use Rattle.scfs_machine.specs.Agents.{Opening, Waiting, For_step, For_clouds, Request, Agent, silent, next_asked, asks_step}
+use Rattle.scfs_machine.specs.Agents.{Opening, Waiting, For_step, For_clouds, Request, Agent, silent, next_asked, asks_step, Reaction}
 use Rattle.scfs_machine.specs.Opens.{Found, As_empty, On_clouds, found_version, found, opened, tallied, session_on, asks_gets, sighted, saw, gives_up, reads, takes, open_hears, open_turns}
 use Rattle.scfs_machine.specs.Layers.{Row, rows}
 use Rattle.scfs_machine.specs.States.{Reply}
@@ -46,10 +46,17 @@ reading_is s v y is =
     ∙ ap (λ size. of (upload_name v.upload) v.root size) (sym is.size)
 
 module _ (s : Setup) (event : Event) (a : ℕ) (versions : List Version_seen) (asked : List (Request Row)) (replied : List (Reply Row)) where
+  -- what is seen is tied to the seat of the agent when it is this, and after a reaction
+  abbrev Sits : Agent_seen → Agent Row → Type 0
+  Sits y agent = Seated s versions a y (seat_of agent asked replied)
+
+  abbrev Doing : Agent_seen → Reaction Row → Type 0
+  Doing y r = Does s event a versions y asked replied r
+
   -- an open is answered with the bytes that are seen of it
   opened_does : (y : Agent_seen) (agent : Agent Row) (waiting : Option (Waiting Row)) (h : ℕ) (z : Session) (source : Src)
-      → Seated s versions a y (seat_of (at agent waiting []) asked replied) → busy_asked asked + busy_replied replied ≡ 0
-      → bytes_opened s y.reading source ≡ z.contents → Does s event a versions y asked replied (opened (at agent waiting []) h z source)
+      → Sits y (at agent waiting []) → busy_asked asked + busy_replied replied ≡ 0
+      → bytes_opened s y.reading source ≡ z.contents → Doing y (opened (at agent waiting []) h z source)
   opened_does y agent waiting h z source is none same = record {
     seated = record {
       sessions = held_opened y.bytes (set_at y.bytes h (bytes_opened s y.reading source)) agent.sessions h z
@@ -66,8 +73,8 @@ module _ (s : Setup) (event : Event) (a : ℕ) (versions : List Version_seen) (a
 
   -- Gets are asked
   gets_does : (y : Agent_seen) (agent : Agent Row) (waiting : Option (Waiting Row)) (o : Opening Row) (clouds : List ℕ)
-      → Seated s versions a y (seat_of (at agent (Some (For_clouds o)) []) asked replied)
-      → Does s event a versions y asked replied (asks_gets s rows a (at agent waiting []) o clouds)
+      → Sits y (at agent (Some (For_clouds o)) [])
+      → Doing y (asks_gets s rows a (at agent waiting []) o clouds)
   gets_does y agent waiting o clouds is =
       let gets = next_asked a agent clouds in
       let next = record o { reading = record o.reading { gets = o.reading.gets ++ gets } } in
@@ -87,13 +94,13 @@ module _ (s : Setup) (event : Event) (a : ℕ) (versions : List Version_seen) (a
 
   -- an open is given up
   gives_up_within : (y : Agent_seen) (agent : Agent Row) (o : Opening Row) (good : ℕ) (writes : Bool)
-      → Seated s versions a y (seat_of (at agent None []) asked replied) → busy_asked asked + busy_replied replied ≡ 0
-      → Does s event a versions y asked replied (cond writes (asks_step a (at agent None []) (On_locks (Unlock o.version.file o.session))) (silent (at agent None [])))
+      → Sits y (at agent None []) → busy_asked asked + busy_replied replied ≡ 0
+      → Doing y (cond writes (asks_step a (at agent None []) (On_locks (Unlock o.version.file o.session))) (silent (at agent None [])))
   gives_up_within y agent o good true is none = asks_does s event a versions y asked replied (at agent None []) _ is (omega (arith, none)) tt
   gives_up_within y agent o good false is none = silent_does s event a versions y asked replied (at agent None []) is
 
-  gives_up_does : (y : Agent_seen) (agent : Agent Row) (o : Opening Row) (good : ℕ) → Seated s versions a y (seat_of (at agent None []) asked replied)
-      → busy_asked asked + busy_replied replied ≡ 0 → Does s event a versions y asked replied (gives_up s rows a (at agent None []) o good)
+  gives_up_does : (y : Agent_seen) (agent : Agent Row) (o : Opening Row) (good : ℕ) → Sits y (at agent None [])
+      → busy_asked asked + busy_replied replied ≡ 0 → Doing y (gives_up s rows a (at agent None []) o good)
   gives_up_does y agent o good is none =
       let rest = gives_up_within y agent o good o.writes is none in record { seated = rest.seated; says = (tt, rest.says); sent = rest.sent }
 
@@ -105,8 +112,8 @@ module _ (s : Setup) (event : Event) (a : ℕ) (versions : List Version_seen) (a
   IsRead y (Gives_up good) = Unit {0}
 
   reads_does : (y : Agent_seen) (agent : Agent Row) (o : Opening Row) (next : Next (List ℕ))
-      → Seated s versions a y (seat_of (at agent (Some (For_clouds o)) []) asked replied) → IsRead y next
-      → Does s event a versions y asked replied (reads s rows a (at agent None []) o next)
+      → Sits y (at agent (Some (For_clouds o)) []) → IsRead y next
+      → Doing y (reads s rows a (at agent None []) o next)
   reads_does y agent o Goes_on is read = silent_does s event a versions y asked replied (at agent (Some (For_clouds o)) []) is
   reads_does y agent o (Asks clouds) is read = gets_does y agent None o clouds is
   reads_does y agent o (Has bytes) is read =
@@ -130,8 +137,8 @@ module _ (s : Setup) (event : Event) (a : ℕ) (versions : List Version_seen) (a
 
   -- the opening's reading is another, and what is seen of the agent with it
   other_reading : (y : Agent_seen) (agent : Agent Row) (o : Opening Row) (r : Reading) (reading : Reading) → reading ≡ told_of r
-      → Seated s versions a y (seat_of (at agent (Some (For_clouds o)) []) asked replied)
-      → Seated s versions a (record y { reading = reading }) (seat_of (at agent (Some (For_clouds (record o { reading = r }))) []) asked replied)
+      → Sits y (at agent (Some (For_clouds o)) [])
+      → Sits (record y { reading = reading }) (at agent (Some (For_clouds (record o { reading = r }))) [])
   other_reading y agent o r reading same is = record {
     sessions = is.sessions;
     incarnation = is.incarnation;
@@ -152,7 +159,7 @@ module _ (s : Setup) (event : Event) (a : ℕ) (versions : List Version_seen) (a
   taken_is_read y r (Some piece) same = good_is_read y r piece (length r.pieces == s.header.f) same
 
   heard_within : (y : Agent_seen) (agent : Agent Row) (o : Opening Row) (c : ℕ) (piece : Option KeptPiece) (reading : Reading) (b : Bool)
-      → Seated s versions a y (seat_of (at agent (Some (For_clouds o)) []) asked replied)
+      → Sits y (at agent (Some (For_clouds o)) [])
       → reading ≡ cond b (told_of (with_piece o.reading piece)) (told_of o.reading)
       → Does s event a versions (record y { reading = reading }) asked replied
       (cond b (takes s rows a (at agent None []) o c piece) (reads s rows a (at agent None []) o Goes_on))
@@ -166,21 +173,21 @@ module _ (s : Setup) (event : Event) (a : ℕ) (versions : List Version_seen) (a
 
   -- a cloud's answer is given to an open
   pub open_hears_does : (y : Agent_seen) (agent : Agent Row) (o : Opening Row) (c : ℕ) (request : RequestNo) (answer : CloudAnswer)
-      → Seated s versions a y (seat_of (at agent (Some (For_clouds o)) []) asked replied)
-      → Does s event a versions (with_reading (after_answer s c request answer) y) asked replied (open_hears s rows a (at agent None []) o c request answer)
+      → Sits y (at agent (Some (For_clouds o)) [])
+      → Doing (with_reading (after_answer s c request answer) y) (open_hears s rows a (at agent None []) o c request answer)
   open_hears_does y agent o c request answer is =
       heard_within y agent o c (piece_in s o.reading c answer) (after_answer s c request answer y.reading) (is_awaited o.reading c request) is
       (ap (after_answer s c request answer) is.waits.0)
 
   turned_within : (y : Agent_seen) (agent : Agent Row) (o : Opening Row) (good : ℕ) (clouds : List ℕ) (b : Bool)
-      → Seated s versions a y (seat_of (at agent (Some (For_clouds o)) []) asked replied)
-      → Does s event a versions y asked replied (reads s rows a (at agent None []) o (cond b (Gives_up good) (Asks clouds)))
+      → Sits y (at agent (Some (For_clouds o)) [])
+      → Doing y (reads s rows a (at agent None []) o (cond b (Gives_up good) (Asks clouds)))
   turned_within y agent o good clouds true is = reads_does y agent o (Gives_up good) is tt
   turned_within y agent o good clouds false is = reads_does y agent o (Asks clouds) is tt
 
   -- a turn comes to it
-  pub open_turns_does : (y : Agent_seen) (agent : Agent Row) (o : Opening Row) → Seated s versions a y (seat_of (at agent (Some (For_clouds o)) []) asked replied)
-      → Does s event a versions y asked replied (open_turns s rows a (at agent None []) o)
+  pub open_turns_does : (y : Agent_seen) (agent : Agent Row) (o : Opening Row) → Sits y (at agent (Some (For_clouds o)) [])
+      → Doing y (open_turns s rows a (at agent None []) o)
   open_turns_does y agent o is =
       turned_within y agent (record o { reading = record o.reading { turns = o.reading.turns + 1 } }) (length o.reading.pieces)
       (filter (λ c. not (is_good o.reading c)) o.reading.order) (o.reading.turns + 1 == turns_limit)
@@ -192,8 +199,8 @@ module _ (s : Setup) (event : Event) (a : ℕ) (versions : List Version_seen) (a
   IsFound y (On_clouds v) = y.reading ≡ row_reading v
 
   found_does : (y : Agent_seen) (agent : Agent Row) (given : Given) (h : ℕ) (writes : Bool) (sight : Sight Row) (found : Found Row)
-      → Seated s versions a y (seat_of (at agent (Some For_step) []) asked replied) → busy_asked asked + busy_replied replied ≡ 0
-      → IsFound y found → Does s event a versions y asked replied (sighted s rows a (at agent (Some For_step) []) given h writes sight found)
+      → Sits y (at agent (Some For_step) []) → busy_asked asked + busy_replied replied ≡ 0
+      → IsFound y found → Doing y (sighted s rows a (at agent (Some For_step) []) given h writes sight found)
   found_does y agent given h writes sight As_empty is none same =
       opened_does y agent (Some For_step) h (record { file = sight.file; base = sight.number; writes = writes; contents = [] }) sources.Empty is none refl
   found_does y agent given h writes sight (On_clouds v) is none same =
@@ -217,9 +224,9 @@ module _ (s : Setup) (event : Event) (a : ℕ) (versions : List Version_seen) (a
       same ∙ ap (λ found. new_reading s (if_some found (no_close 0) (λ (w : Version_seen). w.close))) seen.1 ∙ reading_is s v seen.0.close seen.2
 
   pub saw_does : (y : Agent_seen) (agent : Agent Row) (given : Given) (request : RequestNo) (h : ℕ) (writes : Bool) (sight : Sight Row)
-      → Seated s versions a y (seat_of (at agent (Some For_step) []) asked replied) → busy_asked asked + busy_replied replied ≡ 0
+      → Sits y (at agent (Some For_step) []) → busy_asked asked + busy_replied replied ≡ 0
       → IsSeen s versions sight.file sight.number sight.version → request.agent ≡ a
-      → Does s event a versions y asked replied (saw s rows a (at agent (Some For_step) []) given request h writes sight)
+      → Doing y (saw s rows a (at agent (Some For_step) []) given request h writes sight)
   saw_does y agent given request h writes sight is none seen own =
       let next = with_reading (λ r. reading_of s versions sight.file sight.number) y in
       let rest = found_does next agent given h writes sight (found sight)

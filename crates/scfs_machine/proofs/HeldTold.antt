@@ -9,7 +9,7 @@ use Rattle.scfs_machine.specs.NameSteps.{Name_outcome, Makes, Shows}
 use Rattle.scfs_machine.specs.SessionSteps.{Session_step, Open_read, Open_write, Commit, Session_outcome, Sees, Locks, Completes}
 use Rattle.scfs_machine.specs.Steps.{Outcome, Of_names, Of_locks, Of_sessions}
 use Rattle.scfs_machine.specs.Sayings.{Saying, Saw, Opened, Made, Looked, Shown, Wrote, Truncated, Ended, Stored, Refused}
-use Rattle.scfs_machine.specs.Agents.{Waiting, For_step, For_clouds, For_close, Closed, Request, Agent, answered}
+use Rattle.scfs_machine.specs.Agents.{Waiting, For_step, For_clouds, For_close, Closed, Request, Agent, answered, Reaction}
 use Rattle.scfs_machine.specs.Told.{name_answer, is_pending, untold, told_open, told_closed, told_commit, told_sessions, told, tells}
 use Rattle.scfs_machine.specs.Layers.{Row, rows}
 use Rattle.scfs_machine.specs.States.{Reply}
@@ -30,9 +30,16 @@ IsPlain (Truncated h size) = ⊥
 IsPlain other = Unit {0}
 
 module _ (s : Setup) (event : Event) (a : ℕ) (versions : List Version_seen) (y : Agent_seen) (asked : List (Request Row)) (replied : List (Reply Row)) where
+  -- what is seen is tied to the seat of the agent when it is this, and after a reaction
+  abbrev Sits : Agent Row → Type 0
+  Sits agent = Seated s versions a y (seat_of agent asked replied)
+
+  abbrev Doing : Reaction Row → Type 0
+  Doing r = Does s event a versions y asked replied r
+
   -- a call is answered, where no step is waited for any more
   answered_seated : (agent : Agent Row) (waiting : Option (Waiting Row)) (closed : List (Closed Row))
-      → Seated s versions a y (seat_of (at agent waiting closed) asked replied) → busy_asked asked + busy_replied replied ≡ 0
+      → Sits (at agent waiting closed) → busy_asked asked + busy_replied replied ≡ 0
       → Seated s versions a y (seat_of (at agent None []) (asked ++ []) replied)
   answered_seated agent waiting closed is none = record {
     sessions = is.sessions;
@@ -44,8 +51,8 @@ module _ (s : Setup) (event : Event) (a : ℕ) (versions : List Version_seen) (y
   }
 
   answered_does : (agent : Agent Row) (waiting later : Option (Waiting Row)) (closed : List (Closed Row)) (z : Saying) → IsPlain z
-      → Seated s versions a y (seat_of (at agent waiting closed) asked replied) → busy_asked asked + busy_replied replied ≡ 0
-      → Does s event a versions y asked replied (answered (at agent later []) z)
+      → Sits (at agent waiting closed) → busy_asked asked + busy_replied replied ≡ 0
+      → Doing (answered (at agent later []) z)
   answered_does agent waiting later closed (Saw request file number) plain is none = absurd plain
   answered_does agent waiting later closed (Opened h number source size) plain is none = absurd plain
   answered_does agent waiting later closed (Made id) plain is none = record { seated = answered_seated agent waiting closed is none; says = (tt, tt); sent = tt }
@@ -59,8 +66,8 @@ module _ (s : Setup) (event : Event) (a : ℕ) (versions : List Version_seen) (y
 
   -- a step on names
   name_does : (agent : Agent Row) (waiting : Option (Waiting Row)) (closed : List (Closed Row)) (r : OrRefusal Name_outcome) → IsStepping waiting
-      → Seated s versions a y (seat_of (at agent waiting closed) asked replied) → busy_asked asked + busy_replied replied ≡ 0
-      → Does s event a versions y asked replied (answered (at agent waiting closed) (name_answer r))
+      → Sits (at agent waiting closed) → busy_asked asked + busy_replied replied ≡ 0
+      → Doing (answered (at agent waiting closed) (name_answer r))
   name_does agent None closed r stepping is none = absurd stepping
   name_does agent (Some For_step) [] (Ok (Makes n)) stepping is none = answered_does agent (Some For_step) (Some For_step) [] (Made n.id) tt is none
   name_does agent (Some For_step) [] (Ok (Shows n)) stepping is none = answered_does agent (Some For_step) (Some For_step) [] (Looked n) tt is none
@@ -71,9 +78,9 @@ module _ (s : Setup) (event : Event) (a : ℕ) (versions : List Version_seen) (y
 
   -- an open
   open_does : (agent : Agent Row) (waiting : Option (Waiting Row)) (closed : List (Closed Row)) (given : Given) (request : RequestNo) (h : ℕ)
-      (r : OrRefusal (Session_outcome Row)) → IsStepping waiting → Seated s versions a y (seat_of (at agent waiting closed) asked replied)
+      (r : OrRefusal (Session_outcome Row)) → IsStepping waiting → Sits (at agent waiting closed)
       → busy_asked asked + busy_replied replied ≡ 0 → ResultFits s versions r → request.agent ≡ a
-      → Does s event a versions y asked replied (told_open s rows a (at agent waiting closed) given request h r)
+      → Doing (told_open s rows a (at agent waiting closed) given request h r)
   open_does agent None closed given request h r stepping is none fits own = absurd stepping
   open_does agent (Some For_step) [] given request h (Ok (Sees sight)) stepping is none fits own =
       saw_does s event a versions asked replied y agent given request h false sight is none fits own
@@ -88,9 +95,9 @@ module _ (s : Setup) (event : Event) (a : ℕ) (versions : List Version_seen) (y
   open_does agent (Some For_close) closed given request h r stepping is none fits own = absurd stepping
 
   -- a commit
-  closed_does : (agent : Agent Row) (x : Closed Row) (r : OrRefusal (Session_outcome Row)) → Seated s versions a y (seat_of (at agent (Some For_close) (x ∷ [])) asked replied)
+  closed_does : (agent : Agent Row) (x : Closed Row) (r : OrRefusal (Session_outcome Row)) → Sits (at agent (Some For_close) (x ∷ []))
       → busy_asked asked + busy_replied replied ≡ 0
-      → Does s event a versions y asked replied (told_closed s rows a (at agent (Some For_close) []) x r)
+      → Doing (told_closed s rows a (at agent (Some For_close) []) x r)
   closed_does agent x (Ok (Sees sight)) is none = silent_does s event a versions y asked replied (at agent (Some For_close) (x ∷ [])) is
   closed_does agent x (Ok (Locks sight l)) is none = silent_does s event a versions y asked replied (at agent (Some For_close) (x ∷ [])) is
   closed_does agent x (Ok (Completes number v n)) is none =
@@ -98,8 +105,8 @@ module _ (s : Setup) (event : Event) (a : ℕ) (versions : List Version_seen) (y
   closed_does agent x (Err why) is none = answered_does agent (Some For_close) (Some For_close) (x ∷ []) (Refused why) tt is none
 
   commit_does : (agent : Agent Row) (waiting : Option (Waiting Row)) (closed : List (Closed Row)) (r : OrRefusal (Session_outcome Row))
-      → IsCommitting s waiting closed → Seated s versions a y (seat_of (at agent waiting closed) asked replied) → busy_asked asked + busy_replied replied ≡ 0
-      → Does s event a versions y asked replied (told_commit s rows a (at agent waiting closed) closed r)
+      → IsCommitting s waiting closed → Sits (at agent waiting closed) → busy_asked asked + busy_replied replied ≡ 0
+      → Doing (told_commit s rows a (at agent waiting closed) closed r)
   commit_does agent None closed r committing is none = absurd committing
   commit_does agent (Some For_step) closed r committing is none = absurd committing
   commit_does agent (Some (For_clouds o)) closed r committing is none = absurd committing
@@ -108,9 +115,9 @@ module _ (s : Setup) (event : Event) (a : ℕ) (versions : List Version_seen) (y
   commit_does agent (Some For_close) (x ∷ z ∷ rest) r committing is none = absurd is.waits
 
   session_does : (agent : Agent Row) (waiting : Option (Waiting Row)) (closed : List (Closed Row)) (given : Given) (request : RequestNo) (x : Session_step Row)
-      (r : OrRefusal (Session_outcome Row)) → SessionFits s y.close waiting closed x → Seated s versions a y (seat_of (at agent waiting closed) asked replied)
+      (r : OrRefusal (Session_outcome Row)) → SessionFits s y.close waiting closed x → Sits (at agent waiting closed)
       → busy_asked asked + busy_replied replied ≡ 0 → ResultFits s versions r → request.agent ≡ a
-      → Does s event a versions y asked replied (told_sessions s rows a (at agent waiting closed) given request x r)
+      → Doing (told_sessions s rows a (at agent waiting closed) given request x r)
   session_does agent waiting closed given request (Open_read names h) r fits is none result own =
       open_does agent waiting closed given request h r fits is none result own
   session_does agent waiting closed given request (Open_write names h) r fits is none result own =
@@ -120,8 +127,8 @@ module _ (s : Setup) (event : Event) (a : ℕ) (versions : List Version_seen) (y
   -- a step with what it came to, where no other is waited for if this is
   told_does : (agent : Agent Row) (waiting : Option (Waiting Row)) (closed : List (Closed Row)) (given : Given) (request : RequestNo) (o : Outcome Row)
       → Fits s y.close waiting closed (step_of o) → OutcomeFits s versions o → request.agent ≡ a
-      → Seated s versions a y (seat_of (at agent waiting closed) asked replied) → busy (step_of o) + (busy_asked asked + busy_replied replied) ≤ 1
-      → Does s event a versions y asked replied (told s rows a (at agent waiting closed) given request o)
+      → Sits (at agent waiting closed) → busy (step_of o) + (busy_asked asked + busy_replied replied) ≤ 1
+      → Doing (told s rows a (at agent waiting closed) given request o)
   told_does agent waiting closed given request (Of_names x r) fits result own is few = name_does agent waiting closed r fits is (omega (arith, few))
   told_does agent waiting closed given request (Of_locks x r) fits result own is few =
       silent_does s event a versions y asked replied (at agent waiting closed) is

@@ -50,24 +50,31 @@ module _ (s : Setup) (event : Event) (a : ℕ) (versions : List Version_seen) (y
   abbrev later : Agent_seen
   later = record y { reading = reading }
 
+  -- what is seen is tied to the seat of the agent when it is this, and after a reaction
+  abbrev Sits : Agent_seen → Agent Row → Type 0
+  Sits z agent = Seated s versions a z (seat_of agent asked replied)
+
+  abbrev Doing : Reaction Row → Type 0
+  Doing r = Does s event a versions later asked replied r
+
   -- what the two are to do
   pub record Works : Type 0 where
-    pub opens : (agent : Agent Row) (o : Opening Row) → Seated s versions a y (seat_of (at agent (Some (For_clouds o)) []) asked replied)
-        → Does s event a versions later asked replied (on_open (at agent None []) o)
+    pub opens : (agent : Agent Row) (o : Opening Row) → Sits y (at agent (Some (For_clouds o)) [])
+        → Doing (on_open (at agent None []) o)
     pub leaves : (agent : Agent Row) (o : Opening Row) → (on_open (at agent None []) o).agent.closed ≡ []
-    pub uploads : (agent : Agent Row) (x : Closed Row) (u : Upload Row) → Seated s versions a later (seat_of (uploading agent x u) asked replied)
-        → Does s event a versions later asked replied (on_upload (at agent (Some For_close) []) x u)
+    pub uploads : (agent : Agent Row) (x : Closed Row) (u : Upload Row) → Sits later (uploading agent x u)
+        → Doing (on_upload (at agent (Some For_close) []) x u)
 
   upload_works : (agent : Agent Row) (x : Closed Row) (upload : Option (Upload Row)) → Works
-      → Seated s versions a later (seat_of (at agent (Some For_close) ((record x { upload = upload }) ∷ [])) asked replied)
+      → Sits later (at agent (Some For_close) ((record x { upload = upload }) ∷ []))
       → Does s event a versions later asked replied
       (to_closed (at agent (Some For_close) ((record x { upload = upload }) ∷ [])) on_upload [] (record x { upload = upload }) upload)
   upload_works agent x None works is = absurd is.waits
   upload_works agent x (Some u) works is = works.uploads agent (record x { upload = Some u }) u is
 
   pub work_does : (agent : Agent Row) (waiting : Option (Waiting Row)) (closed : List (Closed Row)) → Works
-      → Seated s versions a y (seat_of (at agent waiting closed) asked replied)
-      → Does s event a versions later asked replied (to_work (at agent waiting closed) on_open on_upload)
+      → Sits y (at agent waiting closed)
+      → Doing (to_work (at agent waiting closed) on_open on_upload)
   work_does agent None [] works is =
       silent_does s event a versions later asked replied (at agent None [])
       (record { sessions = is.sessions; incarnation = is.incarnation; upload = is.upload; waits = tt; steps = is.steps })
@@ -78,7 +85,7 @@ module _ (s : Setup) (event : Event) (a : ℕ) (versions : List Version_seen) (y
   work_does agent (Some For_step) (x ∷ rest) works is = absurd is.waits
   work_does agent (Some (For_clouds o)) [] works is =
       let first = on_open (at agent None []) o in
-      subst (Does s event a versions later asked replied)
+      subst Doing
       (sym (followed_silent first (λ next. to_upload next on_upload next.closed)
       (ap (λ (closed : List (Closed Row)). to_upload first.agent on_upload closed) (works.leaves agent o)))) (works.opens agent o is)
   work_does agent (Some (For_clouds o)) (x ∷ rest) works is = absurd is.waits.1
