@@ -54,7 +54,8 @@ shown_within bytes contents offset count shown true held is = absurd (none_accep
 shown_within bytes contents offset count shown false held is =
     sym (same_accepted (bytes_from contents offset count) shown is) ∙ ap (λ l. bytes_from l offset count) (sym held)
 
-shown_of : (bytes : ℕ → List ℕ) (h offset count : ℕ) (there : Option Session) (shown : List ℕ) → ((y : Session) → there ≡ Some y → bytes h ≡ y.contents)
+shown_of : (bytes : ℕ → List ℕ) (h offset count : ℕ) (there : Option Session) (shown : List ℕ)
+    → ((y : Session) → there ≡ Some y → bytes h ≡ y.contents)
     → read_answer there offset count ≡ Ok shown → shown ≡ bytes_from (bytes h) offset count
 shown_of bytes h offset count None shown held is = absurd (none_accepted refusals.BadHandle shown is)
 shown_of bytes h offset count (Some y) shown held is =
@@ -114,11 +115,13 @@ module _ (s : Setup) (a : ℕ) (versions : List Version_seen) (y : Agent_seen) (
   changing_does : (call : Call) (agent : Agent Row) (h end : ℕ) (change : List ℕ → List ℕ) (z : Saying) (next : Session)
       → Sits (at agent None [])
       → changed (session_of agent.sessions h) end change ≡ Ok next → edited (events.Call a call) (y.bytes h) ≡ change (y.bytes h)
-      → Seated s versions a (with_bytes h (edited (events.Call a call) (y.bytes h)) y) (seat_of (with_session (at agent None []) h next) (asked ++ []) replied)
+      → Seated s versions a (with_bytes h (edited (events.Call a call) (y.bytes h)) y)
+      (seat_of (with_session (at agent None []) h next) (asked ++ []) replied)
   changing_does call agent h end change z next is made same = record {
     sessions = held_set y.bytes (set_at y.bytes h (edited (events.Call a call) (y.bytes h))) agent.sessions h next
         (changes_at y.bytes h (edited (events.Call a call) (y.bytes h)) next.contents
-        (same ∙ changed_of y.bytes h end change (session_of agent.sessions h) next (λ x there. held_found y.bytes agent.sessions h x there is.sessions) made))
+        (same ∙ changed_of y.bytes h end change (session_of agent.sessions h) next
+        (λ x there. held_found y.bytes agent.sessions h x there is.sessions) made))
         is.sessions;
     incarnation = is.incarnation;
     upload = is.upload;
@@ -166,7 +169,8 @@ module _ (s : Setup) (a : ℕ) (versions : List Version_seen) (y : Agent_seen) (
             offset,
             count,
             refl,
-            shown_of y.bytes h offset count (session_of agent.sessions h) shown (λ x there. held_found y.bytes agent.sessions h x there is.sessions) made,
+            shown_of y.bytes h offset count (session_of agent.sessions h) shown (λ x there. held_found y.bytes agent.sessions h x there is.sessions)
+                made,
           ),
           tt,
         );
@@ -176,7 +180,8 @@ module _ (s : Setup) (a : ℕ) (versions : List Version_seen) (y : Agent_seen) (
       let call = calls.Write h offset new in
       unless_does s (events.Call a call) a versions y asked replied (at agent None []) (after_write (session_of agent.sessions h) offset new) _ is
       (λ next made. record {
-        seated = changing_does call agent h (offset + length new) (λ contents. written contents offset new) (says.Wrote h (length next.contents)) next is made refl;
+        seated = changing_does call agent h (offset + length new) (λ contents. written contents offset new)
+            (says.Wrote h (length next.contents)) next is made refl;
         says = (tt, tt);
         sent = tt;
       })

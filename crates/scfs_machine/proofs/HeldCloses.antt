@@ -32,7 +32,8 @@ pub record IsFurther (s : Setup) (u later : Upload Row) : Type 0 where
   pub version : later.version ≡ u.version
   pub stored : is_enough s u.storing ≡ true → is_enough s later.storing ≡ true
 
-module _ (s : Setup) (event : Event) (a : ℕ) (versions : List Version_seen) (y : Agent_seen) (asked : List (Request Row)) (replied : List (Reply Row)) where
+module _ (s : Setup) (event : Event) (a : ℕ) (versions : List Version_seen) (y : Agent_seen) (asked : List (Request Row))
+    (replied : List (Reply Row)) where
   -- what is seen is tied to the seat of the agent when it is this, and after a reaction
   abbrev Sits : Agent Row → Type 0
   Sits agent = Seated s versions a y (seat_of agent asked replied)
@@ -129,7 +130,8 @@ module _ (s : Setup) (event : Event) (a : ℕ) (versions : List Version_seen) (y
   heard_within agent x u c true just is =
       let sum = length-append u.storing.acked (c ∷ []) in
       let all = eqb-true (length u.storing.acked + 1) (enough s) just in
-      commits_does agent x u (with_storing u (with_ack u.storing c)) (record { version = refl; stored = λ e. le-leb (enough s) _ (omega (arith, sum, all)) })
+      commits_does agent x u (with_storing u (with_ack u.storing c))
+      (record { version = refl; stored = λ e. le-leb (enough s) _ (omega (arith, sum, all)) })
       (is_less (enough s) (length u.storing.acked) (omega (arith, all))) (le-leb (enough s) _ (omega (arith, sum, all))) is
     where
       is_less : (n m : ℕ) → m + 1 ≤ n → nat_le n m ≡ false
@@ -144,7 +146,11 @@ module _ (s : Setup) (event : Event) (a : ℕ) (versions : List Version_seen) (y
   heard_within agent x u c false just is =
       let sum = length-append u.storing.acked (c ∷ []) in
       goes_on_does agent x u (with_storing u (with_ack u.storing c))
-      (record { version = refl; stored = λ e. le-leb (enough s) _ (let before = leb-true (enough s) (length u.storing.acked) e in omega (arith, sum, before)) }) is
+      (record {
+        version = refl;
+        stored = λ e. le-leb (enough s) _
+            (let before = leb-true (enough s) (length u.storing.acked) e in omega (arith, sum, before));
+      }) is
 
   hears_within : (agent : Agent Row) (x : Closed Row) (u : Upload Row) (c : ℕ) (b : Bool) → Sits (uploading agent x u)
       → Doing (cond b (stores s a (at agent (Some For_close) []) x (with_storing u (with_ack u.storing c)) (store_on s u.storing))
@@ -158,7 +164,8 @@ module _ (s : Setup) (event : Event) (a : ℕ) (versions : List Version_seen) (y
   upload_hears_does agent x u c request answer is = hears_within agent x u c (is_new_ack u.storing c request answer) is
 
   -- a turn comes
-  turned_within : (agent : Agent Row) (x : Closed Row) (u later : Upload Row) (all last : Bool) (acks : ℕ) (clouds : List ℕ) → is_enough s u.storing ≡ all
+  turned_within : (agent : Agent Row) (x : Closed Row) (u later : Upload Row) (all last : Bool) (acks : ℕ) (clouds : List ℕ)
+      → is_enough s u.storing ≡ all
       → IsFurther s u later → Sits (uploading agent x u)
       → Does s event a versions y asked replied
       (stores s a (at agent (Some For_close) []) x later (cond all Goes_on (cond last (Gives_up acks) (Asks clouds))))
@@ -169,5 +176,7 @@ module _ (s : Setup) (event : Event) (a : ℕ) (versions : List Version_seen) (y
   pub upload_turns_does : (agent : Agent Row) (x : Closed Row) (u : Upload Row) → Sits (uploading agent x u)
       → Doing (upload_turns s a (at agent (Some For_close) []) x u)
   upload_turns_does agent x u is =
-      turned_within agent x u (with_storing u (record u.storing { turns = u.storing.turns + 1 })) (is_enough s u.storing) (u.storing.turns + 1 == turns_limit)
-      (length u.storing.acked) (filter (λ c. not (is_in c u.storing.acked)) (below (clouds_of s))) refl (record { version = refl; stored = λ e. e }) is
+      turned_within agent x u (with_storing u (record u.storing { turns = u.storing.turns + 1 })) (is_enough s u.storing)
+      (u.storing.turns + 1 == turns_limit)
+      (length u.storing.acked) (filter (λ c. not (is_in c u.storing.acked)) (below (clouds_of s))) refl
+      (record { version = refl; stored = λ e. e }) is

@@ -50,7 +50,8 @@ row_is s z mine other bytes same held = record {
   size = ap (λ (l : List ℕ). length l) (sym held);
 }
 
-module _ (s : Setup) (event : Event) (a : ℕ) (versions : List Version_seen) (y : Agent_seen) (asked : List (Request Row)) (replied : List (Reply Row)) (given : Given) (h : ℕ) where
+module _ (s : Setup) (event : Event) (a : ℕ) (versions : List Version_seen) (y : Agent_seen) (asked : List (Request Row))
+    (replied : List (Reply Row)) (given : Given) (h : ℕ) where
   -- what is seen is tied to the seat of the agent when it is this
   abbrev Sits : Agent Row → Type 0
   Sits agent = Seated s versions a y (seat_of agent asked replied)
@@ -85,7 +86,8 @@ module _ (s : Setup) (event : Event) (a : ℕ) (versions : List Version_seen) (y
       } in
       let x : Closed Row = record { number = h; session = z; upload = Some u } in
       puts_does s event a versions (with_close a h y) asked replied
-      (record agent { sessions = ended agent.sessions h; waiting = Some For_close; closed = x ∷ []; uploads = agent.uploads + 1 }) (below (clouds_of s))
+      (record agent { sessions = ended agent.sessions h; waiting = Some For_close; closed = x ∷ []; uploads = agent.uploads + 1 })
+      (below (clouds_of s))
       (upload_name number) (object_at unit)
       (record {
         sessions = held_ended y.bytes agent.sessions h is.sessions;
@@ -96,14 +98,16 @@ module _ (s : Setup) (event : Event) (a : ℕ) (versions : List Version_seen) (y
       })
 
   refused_closing : (agent : Agent Row) (why : Refusal) → Sits agent
-      → (next_begun s rows a agent agent.closed ≡ silent agent) → Closing (followed (refuse agent why) (λ next. next_begun s rows a next next.closed))
+      → (next_begun s rows a agent agent.closed ≡ silent agent)
+      → Closing (followed (refuse agent why) (λ next. next_begun s rows a next next.closed))
   refused_closing agent why is still =
       subst Closing (sym (followed_silent (refuse agent why) (λ next. next_begun s rows a next next.closed) still))
       (inl (refl, refuse_does s event a versions y asked replied agent why is))
 
   ends_closing : (agent : Agent Row) (z : Session) (writes : Bool) → session_of agent.sessions h ≡ Some z
       → Sits (at agent None [])
-      → Closing (followed (cond writes (closes (left agent) h z) (saying (left agent) (says.Ended h))) (λ next. next_begun s rows a next next.closed))
+      → Closing (followed (cond writes (closes (left agent) h z) (saying (left agent) (says.Ended h)))
+      (λ next. next_begun s rows a next next.closed))
   ends_closing agent z true there is =
       let puts = next_asked a (record agent { uploads = agent.uploads + 1 }) (below (clouds_of s)) in
       let number = upload_no a agent.incarnation (agent.uploads + 1) in
@@ -128,4 +132,5 @@ module _ (s : Setup) (event : Event) (a : ℕ) (versions : List Version_seen) (y
   closing agent None [] is = close_closing agent (session_of agent.sessions h) refl is
   closing agent None (x ∷ rest) is = absurd is.waits
   closing agent (Some waiting) closed is =
-      refused_closing (at agent (Some waiting) closed) refusals.Busy is (not_begun s a (at agent (Some waiting) closed) y (Some waiting) closed is.waits)
+      refused_closing (at agent (Some waiting) closed) refusals.Busy is
+      (not_begun s a (at agent (Some waiting) closed) y (Some waiting) closed is.waits)

@@ -28,7 +28,8 @@ at agent waiting closed = record agent { waiting = waiting; closed = closed }
 abbrev pub seat_of : Agent Row → List (Request Row) → List (Reply Row) → Seat Row
 seat_of agent asked replied = record { agent = agent; asked = asked; replied = replied }
 
-module _ (s : Setup) (event : Event) (a : ℕ) (versions : List Version_seen) (y : Agent_seen) (asked : List (Request Row)) (replied : List (Reply Row)) where
+module _ (s : Setup) (event : Event) (a : ℕ) (versions : List Version_seen) (y : Agent_seen) (asked : List (Request Row))
+    (replied : List (Reply Row)) where
   -- what is seen is tied to the seat of the agent when it is this, and after a reaction
   abbrev pub Sits : Agent Row → Type 0
   Sits agent = Seated s versions a y (seat_of agent asked replied)
@@ -83,7 +84,8 @@ module _ {V : Type 0} where
   abbrev reaction_of : Agent V → List Saying → List (Request V) → List Sent → List RankFacts → Reaction V
   reaction_of agent says steps sent ranked = record { agent = agent; says = says; steps = steps; sent = sent; ranked = ranked }
 
-pub followed_silent : {V : Type 0} (first : Reaction V) (next : Agent V → Reaction V) → next first.agent ≡ silent first.agent → followed first next ≡ first
+pub followed_silent : {V : Type 0} (first : Reaction V) (next : Agent V → Reaction V) → next first.agent ≡ silent first.agent
+    → followed first next ≡ first
 followed_silent {V} first next still =
     ap (λ (second : Reaction V). reaction_of second.agent (first.says ++ second.says) (first.steps ++ second.steps) (first.sent ++ second.sent)
     (first.ranked ++ second.ranked)) still
@@ -116,13 +118,16 @@ module _ (s : Setup) (a : ℕ) (agent : Agent Row) where
   not_begun y (Some For_close) closed is = closes_not_begun y closed is
 
 -- what comes after a response changes nothing, but where a session was closed
-pub reacted_does : (s : Setup) (event : Event) (a : ℕ) (versions : List Version_seen) (y : Agent_seen) (asked : List (Request Row)) (replied : List (Reply Row))
+pub reacted_does : (s : Setup) (event : Event) (a : ℕ) (versions : List Version_seen) (y : Agent_seen) (asked : List (Request Row))
+    (replied : List (Reply Row))
     (agent : Agent Row) (given : Given) (input : Input Row) → Does s event a versions y asked replied (responded s rows a agent given input)
     → Does s event a versions y asked replied (reacted s rows a agent given input)
 reacted_does s event a versions y asked replied agent given input does =
     let first = responded s rows a agent given input in
     subst (Does s event a versions y asked replied)
-    (sym (followed_silent first (λ next. next_begun s rows a next next.closed) (not_begun s a first.agent (after_doing s event versions first.says first.sent y) first.agent.waiting first.agent.closed does.seated.waits))) does
+    (sym (followed_silent first (λ next. next_begun s rows a next next.closed)
+    (not_begun s a first.agent (after_doing s event versions first.says first.sent y) first.agent.waiting first.agent.closed does.seated.waits)))
+    does
 
 -- requests to clouds that read nothing, and Gets, as what is seen of the agent after them
 

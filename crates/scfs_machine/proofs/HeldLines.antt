@@ -123,11 +123,13 @@ module _ (s : Setup) (event : Event) (message : Option Message) (a : ℕ) where
   body_becomes x request c (requests.List prefix) own = nothing_becomes a x
 
   sent_becomes : (sent : List Sent) (x : Seen) → Each (IsOwn a) sent
-      → Becomes a x (fold (seen_line s event message) x (map (λ (q : Sent). request_line s q.number q.cloud q.body) sent)) (fold after_sent (x.agents a) sent)
+      → Becomes a x (fold (seen_line s event message) x (map (λ (q : Sent). request_line s q.number q.cloud q.body) sent))
+      (fold after_sent (x.agents a) sent)
   sent_becomes [] x own = nothing_becomes a x
   sent_becomes (q ∷ rest) x own =
       let next = seen_line s event message x (request_line s q.number q.cloud q.body) in
-      then_becomes a x next (fold (seen_line s event message) next (map (λ (q : Sent). request_line s q.number q.cloud q.body) rest)) (after_sent (x.agents a) q)
+      then_becomes a x next (fold (seen_line s event message) next (map (λ (q : Sent). request_line s q.number q.cloud q.body) rest))
+      (after_sent (x.agents a) q)
       (λ versions y. fold after_sent y rest) (body_becomes x q.number q.cloud q.body own.0) (sent_becomes rest next own.1)
 
   -- after all lines of an agent's reaction
@@ -148,8 +150,10 @@ module _ (s : Setup) (event : Event) (message : Option Message) (a : ℕ) where
       (λ versions y. fold after_sent y sent) (says_become bytes says next own) (sent_becomes sent later ours)))
 
 -- a reaction of agent a leaves what is then seen of it tied to its seat
-pub record Does (s : Setup) (event : Event) (a : ℕ) (versions : List Version_seen) (y : Agent_seen) (asked : List (Request Row)) (replied : List (Reply Row))
+pub record Does (s : Setup) (event : Event) (a : ℕ) (versions : List Version_seen) (y : Agent_seen) (asked : List (Request Row))
+    (replied : List (Reply Row))
     (r : Reaction Row) : Type 0 where
-  pub seated : Seated s versions a (after_doing s event versions r.says r.sent y) (record { agent = r.agent; asked = asked ++ r.steps; replied = replied })
+  pub seated : Seated s versions a (after_doing s event versions r.says r.sent y)
+      (record { agent = r.agent; asked = asked ++ r.steps; replied = replied })
   pub says : Each (IsSaid event a y.bytes) r.says
   pub sent : Each (IsOwn a) r.sent

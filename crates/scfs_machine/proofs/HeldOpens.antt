@@ -40,7 +40,8 @@ row_reading v = record { name = upload_name v.upload; root = v.root; size = v.le
 
 reading_is : (s : Setup) (v : Row) (y : Close_seen) → IsRow s v y → new_reading s y ≡ row_reading v
 reading_is s v y is =
-    let of : List ℕ → Digest → ℕ → Reading = λ name root size. record { name = name; root = root; size = size; order = []; gets = []; pieces = []; turns = 0 } in
+    let of : List ℕ → Digest → ℕ → Reading = λ name root size. record
+    { name = name; root = root; size = size; order = []; gets = []; pieces = []; turns = 0 } in
     ap (λ u. of (upload_name u) (sealed s y.upload y.bytes).root (length y.bytes)) (sym is.upload)
     ∙ ap (λ root. of (upload_name v.upload) root (length y.bytes)) (sym is.root)
     ∙ ap (λ size. of (upload_name v.upload) v.root size) (sym is.size)
@@ -79,17 +80,20 @@ module _ (s : Setup) (event : Event) (a : ℕ) (versions : List Version_seen) (a
       let gets = next_asked a agent clouds in
       let next = record o { reading = record o.reading { gets = o.reading.gets ++ gets } } in
       record {
-        seated = subst (λ z. Seated s versions a z (seat_of (record (at agent (Some (For_clouds next)) []) { requests = agent.requests + length gets }) (asked ++ []) replied))
+        seated = subst (λ z. Seated s versions a z
+            (seat_of (record (at agent (Some (For_clouds next)) []) { requests = agent.requests + length gets }) (asked ++ []) replied))
             (sym (after_gets o.reading.name (s.format.object_size s.header.f o.reading.size + 1) gets y)) (record {
               sessions = is.sessions;
               incarnation = is.incarnation;
               upload = is.upload;
               waits = (ap (λ (r : Reading). record r { gets = r.gets ++ gets }) is.waits.0, tt);
               steps = none_asked s a versions y.close (Some (For_clouds next)) [] asked replied
-                  (loose_change s a versions y.close y.close (Some (For_clouds o)) (Some (For_clouds next)) [] [] asked replied (λ e. e) (λ e. e) is.steps);
+                  (loose_change s a versions y.close y.close (Some (For_clouds o)) (Some (For_clouds next)) [] [] asked replied (λ e. e)
+                  (λ e. e) is.steps);
             });
         says = tt;
-        sent = asked_own a agent.incarnation agent.requests clouds (λ c. requests.Get o.reading.name (s.format.object_size s.header.f o.reading.size + 1));
+        sent = asked_own a agent.incarnation agent.requests clouds
+            (λ c. requests.Get o.reading.name (s.format.object_size s.header.f o.reading.size + 1));
       }
 
   -- an open is given up
@@ -154,7 +158,8 @@ module _ (s : Setup) (event : Event) (a : ℕ) (versions : List Version_seen) (a
   good_is_read y r piece true same = ap (λ (r : Reading). s.format.unseal s.header.f r.pieces) same
   good_is_read y r piece false same = tt
 
-  taken_is_read : (y : Agent_seen) (r : Reading) (piece : Option KeptPiece) → y.reading ≡ told_of (with_piece r piece) → IsRead y (read_on s r piece)
+  taken_is_read : (y : Agent_seen) (r : Reading) (piece : Option KeptPiece) → y.reading ≡ told_of (with_piece r piece)
+      → IsRead y (read_on s r piece)
   taken_is_read y r None same = tt
   taken_is_read y r (Some piece) same = good_is_read y r piece (length r.pieces == s.header.f) same
 
@@ -165,7 +170,8 @@ module _ (s : Setup) (event : Event) (a : ℕ) (versions : List Version_seen) (a
       (cond b (takes s rows a (at agent None []) o c piece) (reads s rows a (at agent None []) o Goes_on))
   heard_within y agent o c piece reading true is same =
       let next = other_reading y agent o (with_piece o.reading piece) reading same is in
-      reads_does (record y { reading = reading }) (tallied agent c (is_some piece)) (record o { reading = with_piece o.reading piece }) (read_on s o.reading piece)
+      reads_does (record y { reading = reading }) (tallied agent c (is_some piece)) (record o { reading = with_piece o.reading piece })
+      (read_on s o.reading piece)
       (record { sessions = next.sessions; incarnation = next.incarnation; upload = next.upload; waits = next.waits; steps = next.steps })
       (taken_is_read (record y { reading = reading }) o.reading piece same)
   heard_within y agent o c piece reading false is same =
@@ -202,7 +208,8 @@ module _ (s : Setup) (event : Event) (a : ℕ) (versions : List Version_seen) (a
       → Sits y (at agent (Some For_step) []) → busy_asked asked + busy_replied replied ≡ 0
       → IsFound y found → Doing y (sighted s rows a (at agent (Some For_step) []) given h writes sight found)
   found_does y agent given h writes sight As_empty is none same =
-      opened_does y agent (Some For_step) h (record { file = sight.file; base = sight.number; writes = writes; contents = [] }) sources.Empty is none refl
+      opened_does y agent (Some For_step) h (record { file = sight.file; base = sight.number; writes = writes; contents = [] }) sources.Empty is
+      none refl
   found_does y agent given h writes sight (On_clouds v) is none same =
       let order = order_by given.ranks in
       let o : Opening Row = record { session = h; writes = writes; version = v; reading = record (row_reading v) { order = order } } in

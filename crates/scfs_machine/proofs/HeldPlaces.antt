@@ -60,8 +60,10 @@ module _ (s : Setup) (event : Event) (bytes : ℕ → ℕ → List ℕ) where
 
 module _ (s : Setup) (event : Event) (message : Option Message) (bytes : ℕ → ℕ → List ℕ) (x : Seen) (state : State Row) where
   -- what agent a did, where what is seen of it was changed before, by its event and by the lines before its own
-  pub did_keeps : (start : Seen) (a : ℕ) (first y : Agent_seen) (agent : Agent Row) (asked : List (Request Row)) (replied : List (Reply Row)) (before : List Line)
-      (r : Reaction Row) → IsSeenIn s x state → Becomes a x start first → Becomes a start (fold (seen_line s event message) start before) y → y.bytes ≡ bytes a
+  pub did_keeps : (start : Seen) (a : ℕ) (first y : Agent_seen) (agent : Agent Row) (asked : List (Request Row)) (replied : List (Reply Row))
+      (before : List Line)
+      (r : Reaction Row) → IsSeenIn s x state → Becomes a x start first → Becomes a start (fold (seen_line s event message) start before) y
+      → y.bytes ≡ bytes a
       → Each (IsShown event bytes) before → Does s event a x.versions y asked replied r
       → Keeps s event message bytes start (did s state a (seat_of agent asked replied) before r)
   did_keeps start a first y agent asked replied before r is begins goes same shown does =
@@ -85,7 +87,8 @@ module _ (s : Setup) (event : Event) (message : Option Message) (bytes : ℕ →
               ]);
         };
         shown = each_append (IsShown event bytes) (before ++ told) sent
-            (each_append (IsShown event bytes) before told shown (says_shown event bytes a y r.says same does.says)) (sent_shown s event bytes r.sent);
+            (each_append (IsShown event bytes) before told shown (says_shown event bytes a y r.says same does.says))
+            (sent_shown s event bytes r.sent);
       }
 
 -- what is seen so far of the bytes of sessions
@@ -121,7 +124,8 @@ module _ (s : Setup) (message : Option Message) (x : Seen) (state : State Row) (
       (call_does s a x.versions (x.agents a) seat.asked seat.replied seat.agent seat.agent.waiting seat.agent.closed call kind mine)))
 
   -- a close
-  pub close_found : (a h : ℕ) (agent : Agent Row) (asked : List (Request Row)) (replied : List (Reply Row)) → Seated s x.versions a (x.agents a) (seat_of agent asked replied)
+  pub close_found : (a h : ℕ) (agent : Agent Row) (asked : List (Request Row)) (replied : List (Reply Row))
+      → Seated s x.versions a (x.agents a) (seat_of agent asked replied)
       → let event = events.Call a (calls.Close h) in let e = comes s rows state a given [] (Calls (calls.Close h)) (seat_of agent asked replied) in
       Keeps s event message (bytes_of x) (seen_event event e.lines x) e
   close_found a h agent asked replied mine =
@@ -129,7 +133,8 @@ module _ (s : Setup) (message : Option Message) (x : Seen) (state : State Row) (
         | inl k ↦ subst (λ start. Keeps s event message (bytes_of x) start e) (sym (ap (λ b. cond b x (of_agent a (with_close a h) x)) k.0))
             (own_keeps event a agent asked replied (Calls (calls.Close h)) k.1)
         | inr k ↦ subst (λ start. Keeps s event message (bytes_of x) start e) (sym (ap (λ b. cond b x (of_agent a (with_close a h) x)) k.0))
-            (did_keeps s event message (bytes_of x) x state (of_agent a (with_close a h) x) a (with_close a h (x.agents a)) (with_close a h (x.agents a))
+            (did_keeps s event message (bytes_of x) x state (of_agent a (with_close a h) x) a (with_close a h (x.agents a))
+            (with_close a h (x.agents a))
             agent asked replied [] (reacted s rows a agent given (Calls (calls.Close h))) is closed
             (record { mine = closed.mine; others = λ b apart. refl; versions = refl }) refl tt k.1)
       ]

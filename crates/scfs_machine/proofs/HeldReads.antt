@@ -46,14 +46,16 @@ absent_closes s x state a h is absent = record {
         → Seated s x.versions b ((of_agent a (with_close a h) x).agents b) m
     by b m found true same = not_some m (slice_get state.seats b) (ap (slice_get state.seats) (eqb-true b a same) ∙ absent) found
     by b m found false differ =
-        subst (λ z. Seated s x.versions b z m) (sym (set_there x.agents a b (with_close a h (x.agents a)) (λ same. true≢false (sym (eq-eqb b a same) ∙ differ))))
+        subst (λ z. Seated s x.versions b z m)
+        (sym (set_there x.agents a b (with_close a h (x.agents a)) (λ same. true≢false (sym (eq-eqb b a same) ∙ differ))))
         (is.seats b m found)
 
 module _ (s : Setup) (message : Option Message) (x : Seen) (state : State Row) (given : Given) (is : IsSeenIn s x state) where
   leaving_keeps : (event : Event) → Keeps s event message (bytes_of x) x (leaving state [])
   leaving_keeps event = record { seen = is; shown = tt }
 
-  tells_keeps : (event : Event) (a : ℕ) (seat : Seat Row) (replied : List (Reply Row)) → Seated s x.versions a (x.agents a) (seat_of seat.agent seat.asked replied)
+  tells_keeps : (event : Event) (a : ℕ) (seat : Seat Row) (replied : List (Reply Row))
+      → Seated s x.versions a (x.agents a) (seat_of seat.agent seat.asked replied)
       → Keeps s event message (bytes_of x) x (tells s rows state a given seat replied)
   tells_keeps event a seat [] mine = record { seen = is; shown = (tt, tt) }
   tells_keeps event a seat (oldest ∷ rest) mine =
@@ -83,7 +85,8 @@ module _ (s : Setup) (message : Option Message) (x : Seen) (state : State Row) (
       by None absent = record { seen = absent_closes s x state a h is absent; shown = tt }
       by (Some seat) there = close_found s message x state given is a h seat.agent seat.asked seat.replied (is.seats a seat there)
 
-  answers_keep : (event : Event) (c : ℕ) (message : Option Message) (other : Option Message) → Keeps s event other (bytes_of x) x (answers_by s state c message)
+  answers_keep : (event : Event) (c : ℕ) (message : Option Message) (other : Option Message)
+      → Keeps s event other (bytes_of x) x (answers_by s state c message)
   answers_keep event c None other = record { seen = is; shown = (tt, tt) }
   answers_keep event c (Some (Of_request request)) other = record { seen = is; shown = tt }
   answers_keep event c (Some (Of_answer request answer)) other = record { seen = is; shown = (tt, tt) }
@@ -126,7 +129,8 @@ module _ (s : Setup) (message : Option Message) (x : Seen) (state : State Row) (
       at_seat_keeps s message x state given is event a (λ seat. tells s rows state a given seat seat.replied)
       (λ seat mine. tells_keeps s message x state given is event a seat seat.replied mine)
 
-  pub effect_keeps : (event : Event) → let e = effect s rows state event message given in Keeps s event message (bytes_of x) (seen_event event e.lines x) e
+  pub effect_keeps : (event : Event) → let e = effect s rows state event message given in Keeps s event message (bytes_of x)
+      (seen_event event e.lines x) e
   effect_keeps (events.Call a (calls.Close h)) = closes_keep s message x state given is a h
   effect_keeps (events.Call a call) = call_keeps s message x state given is a call tt
   effect_keeps (events.Space a) = serves_at (events.Space a) a
@@ -174,7 +178,8 @@ pub seen_after : (s : Setup) (past : History) → Happens s past → IsSeenIn s 
 seen_after s [] happens = first_seen s
 seen_after s (e ∷ past) happens =
     let state = actual s past in
-    subst (λ shown. IsSeenIn s (fold (seen_line s e.event e.message) (seen_event e.event shown (seen s past)) shown) (effect_after s rows past e).state)
+    subst (λ shown. IsSeenIn s (fold (seen_line s e.event e.message) (seen_event e.event shown (seen s past)) shown)
+    (effect_after s rows past e).state)
     (sym happens.0) (effect_keeps s e.message (seen s past) state (given_of state.clock e) (seen_after s past happens.1) e.event).seen
 
 -- the law
@@ -188,7 +193,8 @@ shows_held s past e happens a h bytes contains =
     let state = actual s past in
     let shown = (effect_keeps s e.message (seen s past) state (given_of state.clock e) (seen_after s past happens.1) e.event).shown in
     All-contains (IsShown e.event (bytes_of (seen s past))) e.lines (lines.Data a h bytes)
-    (each_all (IsShown e.event (bytes_of (seen s past))) e.lines (subst (Each (IsShown e.event (bytes_of (seen s past)))) (sym happens.0) shown)) contains
+    (each_all (IsShown e.event (bytes_of (seen s past))) e.lines (subst (Each (IsShown e.event (bytes_of (seen s past)))) (sym happens.0) shown))
+    contains
 
 pub reads_are_held : (s : Setup) (past : History) → Happens s past → ReadsHeld s past
 reads_are_held s [] happens = tt

@@ -26,7 +26,8 @@ pub held_alike : (held new : ℕ → List ℕ) (sessions : OpenSessions) → ((k
 held_alike held new [] same is = tt
 held_alike held new (e ∷ es) same is = (same e.0 ∙ is.0, is.1, held_alike held new es same is.2)
 
-held_apart : (held new : ℕ → List ℕ) (h : ℕ) (sessions : OpenSessions) → ((k : ℕ) → k ≢ h → new k ≡ held k) → AreAbove h sessions → AreHeld held sessions
+held_apart : (held new : ℕ → List ℕ) (h : ℕ) (sessions : OpenSessions) → ((k : ℕ) → k ≢ h → new k ≡ held k) → AreAbove h sessions
+    → AreHeld held sessions
     → AreHeld new sessions
 held_apart held new h [] others above is = tt
 held_apart held new h (e ∷ es) others above is =
@@ -43,12 +44,14 @@ above_opened : (k : ℕ) (sessions : OpenSessions) (h : ℕ) (y : Session) → k
 above_opened k [] h y less above = (less, tt)
 above_opened k (e ∷ es) h y less above = by (nat_lt h e.0) (h == e.0) (above_opened k es h y less above.1)
   where
-    by : (lt eq : Bool) → AreAbove k (opened es h y) → AreAbove k (match_ordering (cond lt Less (cond eq Equal Greater)) ((h, y) ∷ e ∷ es) ((e.0, y) ∷ es) (e ∷ opened es h y))
+    by : (lt eq : Bool) → AreAbove k (opened es h y)
+        → AreAbove k (match_ordering (cond lt Less (cond eq Equal Greater)) ((h, y) ∷ e ∷ es) ((e.0, y) ∷ es) (e ∷ opened es h y))
     by true eq later = (less, above)
     by false true later = above
     by false false later = (above.0, later)
 
-pub held_opened : (held new : ℕ → List ℕ) (sessions : OpenSessions) (h : ℕ) (y : Session) → IsChangedAt held new h y.contents → AreHeld held sessions
+pub held_opened : (held new : ℕ → List ℕ) (sessions : OpenSessions) (h : ℕ) (y : Session) → IsChangedAt held new h y.contents
+    → AreHeld held sessions
     → AreHeld new (opened sessions h y)
 held_opened held new [] h y change is = (change.here, tt, tt)
 held_opened held new (e ∷ es) h y change is = by (nat_lt h e.0) (h == e.0) refl refl (held_opened held new es h y change is.2)
@@ -129,7 +132,8 @@ not_some y h = absurd (none h)
 same_some : (x y : Session) → Some x ≡ Some y → x ≡ y
 same_some x y h = cc
 
-pub held_found : (held : ℕ → List ℕ) (sessions : OpenSessions) (h : ℕ) (y : Session) → session_of sessions h ≡ Some y → AreHeld held sessions → held h ≡ y.contents
+pub held_found : (held : ℕ → List ℕ) (sessions : OpenSessions) (h : ℕ) (y : Session) → session_of sessions h ≡ Some y → AreHeld held sessions
+    → held h ≡ y.contents
 held_found held [] h y found is = not_some y found
 held_found held (e ∷ es) h y found is = by (nat_lt h e.0) (h == e.0) refl found (λ there. held_found held es h y there is.2)
   where

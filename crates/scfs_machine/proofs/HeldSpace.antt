@@ -40,7 +40,8 @@ pub record Keeps (s : Setup) (event : Event) (message : Option Message) (bytes :
   pub seen : IsSeenIn s (fold (seen_line s event message) x e.lines) e.state
   pub shown : Each (IsShown event bytes) e.lines
 
-pub get_cases : {X : Type 0} (xs : List X) (a b : ℕ) (y m : X) → slice_get (slice_set xs a y) b ≡ Some m → ((b ≡ a) × (y ≡ m)) ⊎ ((b ≢ a) × (slice_get xs b ≡ Some m))
+pub get_cases : {X : Type 0} (xs : List X) (a b : ℕ) (y m : X) → slice_get (slice_set xs a y) b ≡ Some m
+    → ((b ≡ a) × (y ≡ m)) ⊎ ((b ≢ a) × (slice_get xs b ≡ Some m))
 get_cases [] a b y m found = inr (absurd (none found))
   where
     none : None ≡ Some m → ⊥
@@ -65,7 +66,8 @@ get_cases (x ∷ xs) (suc a) (suc b) y m found =
 
 module _ (s : Setup) (event : Event) (message : Option Message) (bytes : ℕ → ℕ → List ℕ) (x : Seen) (state : State Row) (a : ℕ) where
   -- one seat is another, and what is seen stays
-  pub seat_set : (seat : Seat Row) → Seated s x.versions a (x.agents a) seat → IsSeenIn s x state → (tree : Tree Row) → tree.versions ≡ state.tree.versions
+  pub seat_set : (seat : Seat Row) → Seated s x.versions a (x.agents a) seat → IsSeenIn s x state → (tree : Tree Row)
+      → tree.versions ≡ state.tree.versions
       → IsSeenIn s x (with_seat (record state { tree = tree }) a seat)
   seat_set seat mine is tree same = record {
     versions = subst (λ vs. Tied s vs x.versions) (sym same) is.versions;
@@ -76,13 +78,15 @@ module _ (s : Setup) (event : Event) (message : Option Message) (bytes : ℕ →
   }
 
   -- a step that completes no version is served
-  serves_still : (agent : Agent Row) (oldest : Request Row) (rest : List (Request Row)) (replied : List (Reply Row)) (o : Outcome Row) (tree : Tree Row) (line : Line)
+  serves_still : (agent : Agent Row) (oldest : Request Row) (rest : List (Request Row)) (replied : List (Reply Row)) (o : Outcome Row)
+      (tree : Tree Row) (line : Line)
       → seen_line s event message x line ≡ x → IsShown event bytes line → step_of o ≡ oldest.step → OutcomeFits s x.versions o
       → tree.versions ≡ state.tree.versions → Seated s x.versions a (x.agents a) (seat_of agent (oldest ∷ rest) replied) → IsSeenIn s x state
       → Keeps s event message bytes x (leaving (with_seat (record state { tree = tree }) a
       (seat_of agent rest (replied ++ (record { number = oldest.number; outcome = o }) ∷ []))) (line ∷ []))
   serves_still agent oldest rest replied o tree line still shown same fits versions mine is = record {
-    seen = subst (λ x. IsSeenIn s x (with_seat (record state { tree = tree }) a (seat_of agent rest (replied ++ (record { number = oldest.number; outcome = o }) ∷ []))))
+    seen = subst (λ x. IsSeenIn s x
+        (with_seat (record state { tree = tree }) a (seat_of agent rest (replied ++ (record { number = oldest.number; outcome = o }) ∷ []))))
         (sym still) (seat_set (seat_of agent rest (replied ++ (record { number = oldest.number; outcome = o }) ∷ []))
         (served_seated s x.versions a (x.agents a) agent oldest rest replied o same fits mine) is tree versions);
     shown = (shown, tt);
@@ -92,7 +96,8 @@ module _ (s : Setup) (event : Event) (message : Option Message) (bytes : ℕ →
 
   abbrev after_step : Agent Row → RequestNo → List (Request Row) → List (Reply Row) → Served Row → Effect Row
   after_step agent request rest replied z =
-      leaving (with_seat (record state { tree = z.tree }) a (seat_of agent rest (replied ++ (record { number = request; outcome = z.outcome }) ∷ [])))
+      leaving (with_seat (record state { tree = z.tree }) a
+      (seat_of agent rest (replied ++ (record { number = request; outcome = z.outcome }) ∷ [])))
       (served_line rows request z.outcome ∷ [])
 
   names_served : (agent : Agent Row) (oldest : Request Row) (rest : List (Request Row)) (replied : List (Reply Row)) (step : _) (tree : Tree Row)
@@ -108,19 +113,23 @@ module _ (s : Setup) (event : Event) (message : Option Message) (bytes : ℕ →
       serves_still agent oldest rest replied (Of_names step (Err why)) _ (lines.Refused oldest.number why) refl tt same tt versions mine is
 
   -- an open
-  reads_served : (agent : Agent Row) (oldest : Request Row) (rest : List (Request Row)) (replied : List (Reply Row)) (names : List (List ℕ)) (h : ℕ) (tree : Tree Row)
+  reads_served : (agent : Agent Row) (oldest : Request Row) (rest : List (Request Row)) (replied : List (Reply Row)) (names : List (List ℕ)) (h : ℕ)
+      (tree : Tree Row)
       (r : OrRefusal Node) → On_sessions (Open_read names h) ≡ oldest.step → tree.versions ≡ state.tree.versions
       → Seated s x.versions a (x.agents a) (seat_of agent (oldest ∷ rest) replied) → IsSeenIn s x state
       → let o = on_ok (λ n. Sees (sight_of rows tree n)) r in
       Keeps s event message bytes x (after_step agent oldest.number rest replied
       (record { outcome = Of_sessions (Open_read names h) o; tree = after_ok tree (session_after rows tree oldest.number) o }))
   reads_served agent oldest rest replied names h tree (Ok n) same versions mine is =
-      serves_still agent oldest rest replied (Of_sessions (Open_read names h) (Ok (Sees (sight_of rows tree n)))) tree (lines.Looked oldest.number) refl tt same
+      serves_still agent oldest rest replied (Of_sessions (Open_read names h) (Ok (Sees (sight_of rows tree n)))) tree
+      (lines.Looked oldest.number) refl tt same
       (tied_found s tree.versions x.versions n.id n.newest (subst (λ vs. Tied s vs x.versions) (sym versions) is.versions)) versions mine is
   reads_served agent oldest rest replied names h tree (Err why) same versions mine is =
-      serves_still agent oldest rest replied (Of_sessions (Open_read names h) (Err why)) tree (lines.Refused oldest.number why) refl tt same tt versions mine is
+      serves_still agent oldest rest replied (Of_sessions (Open_read names h) (Err why)) tree
+      (lines.Refused oldest.number why) refl tt same tt versions mine is
 
-  writes_served : (agent : Agent Row) (oldest : Request Row) (rest : List (Request Row)) (replied : List (Reply Row)) (names : List (List ℕ)) (h until : ℕ) (tree : Tree Row)
+  writes_served : (agent : Agent Row) (oldest : Request Row) (rest : List (Request Row)) (replied : List (Reply Row)) (names : List (List ℕ))
+      (h until : ℕ) (tree : Tree Row)
       (r : OrRefusal Node) → On_sessions (Open_write names h) ≡ oldest.step → tree.versions ≡ state.tree.versions
       → Seated s x.versions a (x.agents a) (seat_of agent (oldest ∷ rest) replied) → IsSeenIn s x state
       → let o = on_ok (λ (n : Node). Locks (sight_of rows tree n) (new_lock oldest.number h until n.id)) r in
@@ -128,14 +137,17 @@ module _ (s : Setup) (event : Event) (message : Option Message) (bytes : ℕ →
       (record { outcome = Of_sessions (Open_write names h) o; tree = after_ok tree (session_after rows tree oldest.number) o }))
   writes_served agent oldest rest replied names h until tree (Ok n) same versions mine is =
       let l = new_lock oldest.number h until n.id in
-      serves_still agent oldest rest replied (Of_sessions (Open_write names h) (Ok (Locks (sight_of rows tree n) l))) (record tree { locks = tree.locks ++ l ∷ [] })
+      serves_still agent oldest rest replied (Of_sessions (Open_write names h) (Ok (Locks (sight_of rows tree n) l)))
+      (record tree { locks = tree.locks ++ l ∷ [] })
       (lines.Locked oldest.number l.file l.until) refl tt same
       (tied_found s tree.versions x.versions n.id n.newest (subst (λ vs. Tied s vs x.versions) (sym versions) is.versions)) versions mine is
   writes_served agent oldest rest replied names h until tree (Err why) same versions mine is =
-      serves_still agent oldest rest replied (Of_sessions (Open_write names h) (Err why)) tree (lines.Refused oldest.number why) refl tt same tt versions mine is
+      serves_still agent oldest rest replied (Of_sessions (Open_write names h) (Err why)) tree
+      (lines.Refused oldest.number why) refl tt same tt versions mine is
 
   -- a close is completed: the version is that of the agent's latest close
-  commits_served : (agent : Agent Row) (oldest : Request Row) (rest : List (Request Row)) (replied : List (Reply Row)) (h now : ℕ) (v : Row) (tree : Tree Row)
+  commits_served : (agent : Agent Row) (oldest : Request Row) (rest : List (Request Row)) (replied : List (Reply Row)) (h now : ℕ) (v : Row)
+      (tree : Tree Row)
       (r : OrRefusal Node) → On_sessions (Commit h v) ≡ oldest.step → tree.versions ≡ state.tree.versions
       → Seated s x.versions a (x.agents a) (seat_of agent (oldest ∷ rest) replied) → IsSeenIn s x state
       → let o = on_ok (λ n. Completes h (rows.completed v now) (with_version rows n (rows.completed v now))) r in
@@ -169,17 +181,21 @@ module _ (s : Setup) (event : Event) (message : Option Message) (bytes : ℕ →
           let fits = subst (Fits s (x.agents a).close agent.waiting agent.closed) (sym same) mine.steps.asks.0.1 in
           subst (λ k. IsRow s v (x.agents k).close) (sym mine.steps.asks.0.0) fits.1
   commits_served agent oldest rest replied h now v tree (Err why) same versions mine is =
-      serves_still agent oldest rest replied (Of_sessions (Commit h v) (Err why)) tree (lines.Refused oldest.number why) refl tt same tt versions mine is
+      serves_still agent oldest rest replied (Of_sessions (Commit h v) (Err why)) tree
+      (lines.Refused oldest.number why) refl tt same tt versions mine is
 
   -- the oldest step is served in a tree
-  step_served : (agent : Agent Row) (oldest : Request Row) (step : Step Row) (rest : List (Request Row)) (replied : List (Reply Row)) (tree : Tree Row) (now lease : ℕ)
-      → step ≡ oldest.step → tree.versions ≡ state.tree.versions → Seated s x.versions a (x.agents a) (seat_of agent (oldest ∷ rest) replied) → IsSeenIn s x state
+  step_served : (agent : Agent Row) (oldest : Request Row) (step : Step Row) (rest : List (Request Row)) (replied : List (Reply Row))
+      (tree : Tree Row) (now lease : ℕ)
+      → step ≡ oldest.step → tree.versions ≡ state.tree.versions → Seated s x.versions a (x.agents a) (seat_of agent (oldest ∷ rest) replied)
+      → IsSeenIn s x state
       → Keeps s event message bytes x (after_step agent oldest.number rest replied (served rows tree now lease oldest.number step))
   step_served agent oldest (On_names z) rest replied tree now lease same versions mine is =
       names_served agent oldest rest replied z tree (name_outcome tree.nodes z) same versions mine is
   step_served agent oldest (On_locks (Unlock file h)) rest replied tree now lease same versions mine is =
       let r = lock_outcome tree.locks oldest.number (Unlock file h) in
-      serves_still agent oldest rest replied (Of_locks (Unlock file h) r) (record tree { locks = locks_after tree.locks oldest.number (Unlock file h) })
+      serves_still agent oldest rest replied (Of_locks (Unlock file h) r)
+      (record tree { locks = locks_after tree.locks oldest.number (Unlock file h) })
       (line_of oldest.number lock_line r) refl tt same tt versions mine is
   step_served agent oldest (On_sessions (Open_read names h)) rest replied tree now lease same versions mine is =
       reads_served agent oldest rest replied names h tree (file_at tree.nodes names) same versions mine is
@@ -212,7 +228,8 @@ module _ (s : Setup) (event : Event) (message : Option Message) (bytes : ℕ →
           upload = mine.upload;
           waits = mine.waits;
           steps = record {
-            asks = each_append (RequestFits s a x.versions (x.agents a).close agent.waiting agent.closed) rest (oldest ∷ []) mine.steps.asks.1 (mine.steps.asks.0, tt);
+            asks = each_append (RequestFits s a x.versions (x.agents a).close agent.waiting agent.closed) rest (oldest ∷ []) mine.steps.asks.1
+                (mine.steps.asks.0, tt);
             replies = mine.steps.replies;
             alone = omega (arith, few, sum);
           };

@@ -67,7 +67,8 @@ module _ (s : Setup) (close next : Close_seen) (waiting later : Option (Waiting 
   loosened so also (On_locks x) fits = tt
   loosened so also (On_sessions x) fits = session_loosened so also x fits
 
-module _ (s : Setup) (a : ℕ) (versions : List Version_seen) (close next : Close_seen) (waiting later : Option (Waiting Row)) (closed after : List (Closed Row)) where
+module _ (s : Setup) (a : ℕ) (versions : List Version_seen) (close next : Close_seen) (waiting later : Option (Waiting Row))
+    (closed after : List (Closed Row)) where
   asked_idle : (IsStepping waiting → ⊥) → (IsCommitting s waiting closed → ⊥) → (asked : List (Request Row))
       → Each (RequestFits s a versions close waiting closed) asked → busy_asked asked ≡ 0
   asked_idle calm none [] fits = refl
@@ -136,4 +137,5 @@ module _ (s : Setup) (a : ℕ) (versions : List Version_seen) (close : Close_see
 
   pub none_asked : (asked : List (Request Row)) (replied : List (Reply Row)) → Between s a versions close waiting closed asked replied
       → Between s a versions close waiting closed (asked ++ []) replied
-  none_asked asked replied is = subst (λ (xs : List (Request Row)). Between s a versions close waiting closed xs replied) (sym (append-nil asked)) is
+  none_asked asked replied is = subst (λ (xs : List (Request Row)). Between s a versions close waiting closed xs replied)
+      (sym (append-nil asked)) is

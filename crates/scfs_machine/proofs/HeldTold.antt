@@ -29,7 +29,8 @@ IsPlain (Wrote h size) = ⊥
 IsPlain (Truncated h size) = ⊥
 IsPlain other = Unit {0}
 
-module _ (s : Setup) (event : Event) (a : ℕ) (versions : List Version_seen) (y : Agent_seen) (asked : List (Request Row)) (replied : List (Reply Row)) where
+module _ (s : Setup) (event : Event) (a : ℕ) (versions : List Version_seen) (y : Agent_seen) (asked : List (Request Row))
+    (replied : List (Reply Row)) where
   -- what is seen is tied to the seat of the agent when it is this, and after a reaction
   abbrev Sits : Agent Row → Type 0
   Sits agent = Seated s versions a y (seat_of agent asked replied)
@@ -55,14 +56,19 @@ module _ (s : Setup) (event : Event) (a : ℕ) (versions : List Version_seen) (y
       → Doing (answered (at agent later []) z)
   answered_does agent waiting later closed (Saw request file number) plain is none = absurd plain
   answered_does agent waiting later closed (Opened h number source size) plain is none = absurd plain
-  answered_does agent waiting later closed (Made id) plain is none = record { seated = answered_seated agent waiting closed is none; says = (tt, tt); sent = tt }
-  answered_does agent waiting later closed (Looked n) plain is none = record { seated = answered_seated agent waiting closed is none; says = (tt, tt); sent = tt }
+  answered_does agent waiting later closed
+      (Made id) plain is none = record { seated = answered_seated agent waiting closed is none; says = (tt, tt); sent = tt }
+  answered_does agent waiting later closed
+      (Looked n) plain is none = record { seated = answered_seated agent waiting closed is none; says = (tt, tt); sent = tt }
   answered_does agent waiting later closed (Shown h bytes) plain is none = absurd plain
   answered_does agent waiting later closed (Wrote h size) plain is none = absurd plain
   answered_does agent waiting later closed (Truncated h size) plain is none = absurd plain
-  answered_does agent waiting later closed (Ended h) plain is none = record { seated = answered_seated agent waiting closed is none; says = (tt, tt); sent = tt }
-  answered_does agent waiting later closed (Stored h number) plain is none = record { seated = answered_seated agent waiting closed is none; says = (tt, tt); sent = tt }
-  answered_does agent waiting later closed (Refused why) plain is none = record { seated = answered_seated agent waiting closed is none; says = (tt, tt); sent = tt }
+  answered_does agent waiting later closed
+      (Ended h) plain is none = record { seated = answered_seated agent waiting closed is none; says = (tt, tt); sent = tt }
+  answered_does agent waiting later closed (Stored h number) plain is none = record
+      { seated = answered_seated agent waiting closed is none; says = (tt, tt); sent = tt }
+  answered_does agent waiting later closed
+      (Refused why) plain is none = record { seated = answered_seated agent waiting closed is none; says = (tt, tt); sent = tt }
 
   -- a step on names
   name_does : (agent : Agent Row) (waiting : Option (Waiting Row)) (closed : List (Closed Row)) (r : OrRefusal Name_outcome) → IsStepping waiting
@@ -114,7 +120,8 @@ module _ (s : Setup) (event : Event) (a : ℕ) (versions : List Version_seen) (y
   commit_does agent (Some For_close) (x ∷ []) r committing is none = closed_does agent x r is none
   commit_does agent (Some For_close) (x ∷ z ∷ rest) r committing is none = absurd is.waits
 
-  session_does : (agent : Agent Row) (waiting : Option (Waiting Row)) (closed : List (Closed Row)) (given : Given) (request : RequestNo) (x : Session_step Row)
+  session_does : (agent : Agent Row) (waiting : Option (Waiting Row)) (closed : List (Closed Row)) (given : Given) (request : RequestNo)
+      (x : Session_step Row)
       (r : OrRefusal (Session_outcome Row)) → SessionFits s y.close waiting closed x → Sits (at agent waiting closed)
       → busy_asked asked + busy_replied replied ≡ 0 → ResultFits s versions r → request.agent ≡ a
       → Doing (told_sessions s rows a (at agent waiting closed) given request x r)
@@ -125,7 +132,8 @@ module _ (s : Setup) (event : Event) (a : ℕ) (versions : List Version_seen) (y
   session_does agent waiting closed given request (Commit h v) r fits is none result own = commit_does agent waiting closed r fits.0 is none
 
   -- a step with what it came to, where no other is waited for if this is
-  told_does : (agent : Agent Row) (waiting : Option (Waiting Row)) (closed : List (Closed Row)) (given : Given) (request : RequestNo) (o : Outcome Row)
+  told_does : (agent : Agent Row) (waiting : Option (Waiting Row)) (closed : List (Closed Row)) (given : Given) (request : RequestNo)
+      (o : Outcome Row)
       → Fits s y.close waiting closed (step_of o) → OutcomeFits s versions o → request.agent ≡ a
       → Sits (at agent waiting closed) → busy (step_of o) + (busy_asked asked + busy_replied replied) ≤ 1
       → Doing (told s rows a (at agent waiting closed) given request o)
@@ -136,7 +144,8 @@ module _ (s : Setup) (event : Event) (a : ℕ) (versions : List Version_seen) (y
       session_does agent waiting closed given request x r fits is (omega (arith, few)) result own
 
 -- the oldest reply is told
-pub tells_does : (s : Setup) (event : Event) (a : ℕ) (versions : List Version_seen) (y : Agent_seen) (asked : List (Request Row)) (oldest : Reply Row)
+pub tells_does : (s : Setup) (event : Event) (a : ℕ) (versions : List Version_seen) (y : Agent_seen) (asked : List (Request Row))
+    (oldest : Reply Row)
     (rest : List (Reply Row)) (agent : Agent Row) (given : Given) → Seated s versions a y (seat_of agent asked (oldest ∷ rest))
     → Does s event a versions y asked rest (tells s rows a agent given oldest.number oldest.outcome)
 tells_does s event a versions y asked oldest rest agent given is =

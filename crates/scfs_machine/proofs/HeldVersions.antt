@@ -29,7 +29,8 @@ module _ (s : Setup) where
   Tied [] (w ∷ ws) = ⊥
   Tied (v ∷ vs) [] = ⊥
 
-  pub tied_append : (vs : List Row) (ws : List Version_seen) (v : Row) (w : Version_seen) → Tied vs ws → IsVersion s v w → Tied (vs ++ v ∷ []) (ws ++ w ∷ [])
+  pub tied_append : (vs : List Row) (ws : List Version_seen) (v : Row) (w : Version_seen) → Tied vs ws → IsVersion s v w
+      → Tied (vs ++ v ∷ []) (ws ++ w ∷ [])
   tied_append [] [] v w is one = (one, tt)
   tied_append (x ∷ vs) (z ∷ ws) v w is one = (is.0, tied_append vs ws v w is.1 one)
   tied_append [] (z ∷ ws) v w is one = absurd is
@@ -43,7 +44,8 @@ module _ (s : Setup) where
   seen_behind w ws file number (Some v) other is =
       (is.0, ap (λ b. cond {A = Option Version_seen} b (Some w) (find (is_version file number) ws)) other ∙ is.1, is.2)
 
-  pub tied_found : (vs : List Row) (ws : List Version_seen) (file : FileId) (number : ℕ) → Tied vs ws → IsSeen s ws file number (version_at rows vs file number)
+  pub tied_found : (vs : List Row) (ws : List Version_seen) (file : FileId) (number : ℕ) → Tied vs ws
+      → IsSeen s ws file number (version_at rows vs file number)
   tied_found [] [] file number is = tt
   tied_found (v ∷ vs) (w ∷ ws) file number is = by (same_file v.file file && (v.number == number)) same (tied_found vs ws file number is.1)
     where
@@ -59,7 +61,8 @@ module _ (s : Setup) where
 
   -- more versions are seen
 
-  find_more : (test : Version_seen → Bool) (ws more : List Version_seen) (w : Version_seen) → find test ws ≡ Some w → find test (ws ++ more) ≡ Some w
+  find_more : (test : Version_seen → Bool) (ws more : List Version_seen) (w : Version_seen) → find test ws ≡ Some w
+      → find test (ws ++ more) ≡ Some w
   find_more test [] more w is = absurd (none is)
     where
       none : None ≡ Some w → ⊥
@@ -71,7 +74,8 @@ module _ (s : Setup) where
       by true later e = e
       by false later e = later e
 
-  seen_more : (ws more : List Version_seen) (file : FileId) (number : ℕ) (o : Option Row) → IsSeen s ws file number o → IsSeen s (ws ++ more) file number o
+  seen_more : (ws more : List Version_seen) (file : FileId) (number : ℕ) (o : Option Row) → IsSeen s ws file number o
+      → IsSeen s (ws ++ more) file number o
   seen_more ws more file number None is = tt
   seen_more ws more file number (Some v) is = (is.0, find_more (is_version file number) ws more is.0 is.1, is.2)
 
@@ -94,7 +98,8 @@ module _ (s : Setup) where
     waits = is.waits;
     steps = record {
       asks = is.steps.asks;
-      replies = each_weaker (ReplyFits s a ws y.close m.agent.waiting m.agent.closed) (ReplyFits s a (ws ++ more) y.close m.agent.waiting m.agent.closed)
+      replies = each_weaker (ReplyFits s a ws y.close m.agent.waiting m.agent.closed)
+          (ReplyFits s a (ws ++ more) y.close m.agent.waiting m.agent.closed)
           m.replied (λ r h. (h.0, h.1, outcome_more ws more r.outcome h.2)) is.steps.replies;
       alone = is.steps.alone;
     };
@@ -102,7 +107,8 @@ module _ (s : Setup) where
 
   -- the oldest step is served
   pub served_seated : (ws : List Version_seen) (a : ℕ) (y : Agent_seen) (agent : Agent Row) (oldest : Request Row) (rest : List (Request Row))
-      (replied : List (Reply Row)) (o : Outcome Row) → step_of o ≡ oldest.step → OutcomeFits s ws o → Seated s ws a y (seat_of agent (oldest ∷ rest) replied)
+      (replied : List (Reply Row)) (o : Outcome Row) → step_of o ≡ oldest.step → OutcomeFits s ws o
+      → Seated s ws a y (seat_of agent (oldest ∷ rest) replied)
       → Seated s ws a y (seat_of agent rest (replied ++ (record { number = oldest.number; outcome = o }) ∷ []))
   served_seated ws a y agent oldest rest replied o same fits is =
       let reply : Reply Row = record { number = oldest.number; outcome = o } in

@@ -46,7 +46,8 @@ module _ (s : Setup) (a : ℕ) where
 
 -- first the open, then the upload: at most one of them is there. What is seen of the reading may change before
 module _ (s : Setup) (event : Event) (a : ℕ) (versions : List Version_seen) (y : Agent_seen) (reading : Reading) (asked : List (Request Row))
-    (replied : List (Reply Row)) (on_open : Agent Row → Opening Row → Reaction Row) (on_upload : Agent Row → Closed Row → Upload Row → Reaction Row) where
+    (replied : List (Reply Row)) (on_open : Agent Row → Opening Row → Reaction Row)
+    (on_upload : Agent Row → Closed Row → Upload Row → Reaction Row) where
   abbrev later : Agent_seen
   later = record y { reading = reading }
 
@@ -95,21 +96,26 @@ module _ (s : Setup) (event : Event) (a : ℕ) (versions : List Version_seen) (y
       (record { sessions = is.sessions; incarnation = is.incarnation; upload = is.upload; waits = is.waits; steps = is.steps })
   work_does agent (Some For_close) (x ∷ z ∷ rest) works is = absurd is.waits
 
-module _ (s : Setup) (event : Event) (a : ℕ) (versions : List Version_seen) (y : Agent_seen) (asked : List (Request Row)) (replied : List (Reply Row)) where
+module _ (s : Setup) (event : Event) (a : ℕ) (versions : List Version_seen) (y : Agent_seen) (asked : List (Request Row))
+    (replied : List (Reply Row)) where
   pub hears_does : (agent : Agent Row) (c : ℕ) (request : RequestNo) (answer : CloudAnswer) → Seated s versions a y (seat_of agent asked replied)
       → Does s event a versions (with_reading (after_answer s c request answer) y) asked replied (hears s rows a agent c request answer)
   hears_does agent c request answer is =
-      work_does s event a versions y (after_answer s c request answer y.reading) asked replied (λ next o. open_hears s rows a next o c request answer)
+      work_does s event a versions y (after_answer s c request answer y.reading) asked replied
+      (λ next o. open_hears s rows a next o c request answer)
       (λ next x u. upload_hears s a next x u c request answer) agent agent.waiting agent.closed (record {
         opens = λ agent o is. open_hears_does s event a versions asked replied y agent o c request answer is;
         leaves = λ agent o. hears_closed s a (at agent None []) o c request answer;
-        uploads = λ agent x u is. upload_hears_does s event a versions (with_reading (after_answer s c request answer) y) asked replied agent x u c request answer is;
+        uploads = λ agent x u is. upload_hears_does s event a versions (with_reading (after_answer s c request answer) y) asked replied agent x u c
+            request answer is;
       }) is
 
-  pub turns_does : (agent : Agent Row) → Seated s versions a y (seat_of agent asked replied) → Does s event a versions y asked replied (turns s rows a agent)
+  pub turns_does : (agent : Agent Row) → Seated s versions a y (seat_of agent asked replied)
+      → Does s event a versions y asked replied (turns s rows a agent)
   turns_does agent is =
       work_does s event a versions y y.reading asked replied (open_turns s rows a) (upload_turns s a) agent agent.waiting agent.closed (record {
         opens = λ agent o is. open_turns_does s event a versions asked replied y agent o is;
-        leaves = λ agent o. reads_closed s a (at agent None []) (record o { reading = record o.reading { turns = o.reading.turns + 1 } }) (read_turn o.reading);
+        leaves = λ agent o. reads_closed s a (at agent None []) (record o { reading = record o.reading { turns = o.reading.turns + 1 } })
+            (read_turn o.reading);
         uploads = λ agent x u is. upload_turns_does s event a versions y asked replied agent x u is;
       }) is

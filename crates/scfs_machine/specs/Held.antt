@@ -46,7 +46,15 @@ pub record Seen : Type 0 where
 -- a reading that begins, of the objects of a close: under its upload's name, and the root and the length of the seal of its bytes
 abbrev pub new_reading : Setup → Close_seen → Reading
 new_reading s y =
-    record { name = upload_name y.upload; root = (sealed s y.upload y.bytes).root; size = length y.bytes; order = []; gets = []; pieces = []; turns = 0 }
+    record {
+      name = upload_name y.upload;
+      root = (sealed s y.upload y.bytes).root;
+      size = length y.bytes;
+      order = [];
+      gets = [];
+      pieces = [];
+      turns = 0;
+    }
 
 -- before an agent's first close
 abbrev pub no_close : (a : ℕ) → Close_seen
