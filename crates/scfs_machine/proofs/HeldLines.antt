@@ -135,7 +135,8 @@ module _ (s : Setup) (event : Event) (message : Option Message) (a : ℕ) where
   -- after all lines of an agent's reaction
   pub lines_become : (bytes : ℕ → List ℕ) (x : Seen) (before : List Line) (y : Agent_seen) (says : List Saying) (sent : List Sent)
       → Becomes a x (fold (seen_line s event message) x before) y → Each (IsSaid event a bytes) says → Each (IsOwn a) sent
-      → Becomes a x (fold (seen_line s event message) x (before ++ map (said_by a) says ++ map (λ (q : Sent). request_line s q.number q.cloud q.body) sent))
+      → Becomes a x (fold (seen_line s event message) x
+      (before ++ map (said_by a) says ++ map (λ (q : Sent). request_line s q.number q.cloud q.body) sent))
       (after_doing s event x.versions says sent y)
   lines_become bytes x before y says sent first own ours =
       let step = seen_line s event message in

@@ -70,7 +70,8 @@ module _ (s : Setup) (message : Option Message) (x : Seen) (state : State Row) (
       (reacted_does s event a x.versions (x.agents a) seat.asked seat.replied seat.agent given Turns
       (turns_does s event a x.versions (x.agents a) seat.asked seat.replied seat.agent mine)))
 
-  closes_keep : (a h : ℕ) → let event = events.Call a (calls.Close h) in let e = at_seat state a (comes s rows state a given [] (Calls (calls.Close h))) in
+  closes_keep : (a h : ℕ) → let event = events.Call a (calls.Close h) in
+      let e = at_seat state a (comes s rows state a given [] (Calls (calls.Close h))) in
       Keeps s event message (bytes_of x) (seen_event event e.lines x) e
   closes_keep a h = by (slice_get state.seats a) refl
     where

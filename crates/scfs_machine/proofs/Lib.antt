@@ -20,3 +20,4 @@ pub mod HeldVersions
 pub mod HeldSpace
 pub mod HeldPlaces
 pub mod HeldReads
+mod HeldPlayed
