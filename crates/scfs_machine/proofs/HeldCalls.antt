@@ -112,12 +112,12 @@ module _ (s : Setup) (a : ℕ) (versions : List Version_seen) (y : Agent_seen) (
       }) fits)
       (refuse_does s event a versions y asked replied (at agent None []) refusals.TooManyHandles is)
 
-  changing_does : (call : Call) (agent : Agent Row) (h end : ℕ) (change : List ℕ → List ℕ) (z : Saying) (next : Session)
+  changing_does : (call : Call) (agent : Agent Row) (h end : ℕ) (change : List ℕ → List ℕ) (next : Session)
       → Sits (at agent None [])
       → changed (session_of agent.sessions h) end change ≡ Ok next → edited (events.Call a call) (y.bytes h) ≡ change (y.bytes h)
       → Seated s versions a (with_bytes h (edited (events.Call a call) (y.bytes h)) y)
       (seat_of (with_session (at agent None []) h next) (asked ++ []) replied)
-  changing_does call agent h end change z next is made same = record {
+  changing_does call agent h end change next is made same = record {
     sessions = held_set y.bytes (set_at y.bytes h (edited (events.Call a call) (y.bytes h))) agent.sessions h next
         (changes_at y.bytes h (edited (events.Call a call) (y.bytes h)) next.contents
         (same ∙ changed_of y.bytes h end change (session_of agent.sessions h) next
@@ -180,8 +180,7 @@ module _ (s : Setup) (a : ℕ) (versions : List Version_seen) (y : Agent_seen) (
       let call = calls.Write h offset new in
       unless_does s (events.Call a call) a versions y asked replied (at agent None []) (after_write (session_of agent.sessions h) offset new) _ is
       (λ next made. record {
-        seated = changing_does call agent h (offset + length new) (λ contents. written contents offset new)
-            (says.Wrote h (length next.contents)) next is made refl;
+        seated = changing_does call agent h (offset + length new) (λ contents. written contents offset new) next is made refl;
         says = (tt, tt);
         sent = tt;
       })
@@ -189,7 +188,7 @@ module _ (s : Setup) (a : ℕ) (versions : List Version_seen) (y : Agent_seen) (
       let call = calls.Truncate h size in
       unless_does s (events.Call a call) a versions y asked replied (at agent None []) (after_truncate (session_of agent.sessions h) size) _ is
       (λ next made. record {
-        seated = changing_does call agent h size (λ contents. resized contents size) (says.Truncated h (length next.contents)) next is made refl;
+        seated = changing_does call agent h size (λ contents. resized contents size) next is made refl;
         says = (tt, tt);
         sent = tt;
       })

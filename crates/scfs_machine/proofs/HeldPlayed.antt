@@ -33,8 +33,12 @@ unfolding hex_pair
 deceived = refl
 
 -- a session with the contents of the file's version 1, and its own write at their end
-grown : held_after (begins ++ commits
-    ++ events.Call 0 (calls.OpenW (0x2f ∷ 0x61 ∷ [])) ∷ events.Space 0 ∷ events.Told 0 ∷ events.Serve 0 ∷ events.Give 0 ∷ events.Serve 1 ∷ events.Give 1
-    ∷ events.Call 0 (calls.Write 2 2 (0x21 ∷ [])) ∷ []) 0 2 ≡ 0x68 ∷ 0x69 ∷ 0x21 ∷ []
+abbrev grows : List Event
+grows =
+    begins ++ commits
+    ++ events.Call 0 (calls.OpenW (0x2f ∷ 0x61 ∷ [])) ∷ events.Space 0 ∷ events.Told 0
+    ∷ events.Serve 0 ∷ events.Give 0 ∷ events.Serve 1 ∷ events.Give 1 ∷ events.Call 0 (calls.Write 2 2 (0x21 ∷ [])) ∷ []
+
+grown : held_after grows 0 2 ≡ 0x68 ∷ 0x69 ∷ 0x21 ∷ []
 unfolding hex_pair
 grown = refl
