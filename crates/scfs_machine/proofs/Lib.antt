@@ -16,3 +16,19 @@ pub mod ToldMaps
 pub mod ReactionMaps
 pub mod StateMaps
 pub mod TwoLayers
+pub mod HeldSessions
+pub mod HeldSeats
+pub mod HeldSteps
+pub mod HeldLines
+pub mod HeldDoing
+pub mod HeldCalls
+pub mod HeldCloses
+pub mod HeldClosing
+pub mod HeldOpens
+pub mod HeldTold
+pub mod HeldWork
+pub mod HeldVersions
+pub mod HeldSpace
+pub mod HeldPlaces
+pub mod HeldReads
+mod HeldPlayed
