@@ -5,3 +5,9 @@ mod SharedFile
 mod LyingClouds
 mod Closes
 mod LocalCalls
+pub mod SoundLists
+pub mod SoundKept
+pub mod SoundContents
+pub mod SoundCalls
+pub mod SoundPieces
+pub mod SoundOpens
