@@ -11,3 +11,7 @@ pub mod SoundContents
 pub mod SoundCalls
 pub mod SoundPieces
 pub mod SoundOpens
+pub mod SoundCloses
+pub mod SoundReactions
+pub mod SoundStates
+pub mod SoundReads

@@ -13,6 +13,8 @@ use Rattle.scfs_schedule.specs.declared.types.Call.TheVariants as calls
 use Rattle.scfs_session.specs.declared.sessions.Session.{Session}
 use Rattle.scfs_unit.specs.declared.pieces.KeptPiece.{KeptPiece}
 use Rattle.scfs_machine.specs.Format.{Setup, clouds_of, sealed, object_at}
+use Rattle.scfs_machine.specs.History.{Message, Of_request, Of_answer}
+use Rattle.scfs_machine.specs.Events.{At_agent, Call_comes, Turn_comes, Request_answered, Answer_given, Message_moved, Place, Agent_has, Space_has, Cloud_has, Nowhere}
 use Rattle.scfs_machine.specs.Walks.{OrRefusal}
 use Rattle.scfs_machine.specs.SessionSteps.{Session_step, Open_read, Open_write, Commit, Session_outcome, Sees, Locks, Completes}
 use Rattle.scfs_machine.specs.Steps.{Step, On_names, On_locks, On_sessions, Outcome, Of_names, Of_locks, Of_sessions}
@@ -36,6 +38,10 @@ IsSession y = IsContents y.contents
 abbrev pub IsWritten : Call → Type 0
 IsWritten (calls.Write h offset new) = AreBytes new
 IsWritten other = Unit {0}
+
+abbrev pub IsBrought : At_agent → Type 0
+IsBrought (Call_comes call) = IsWritten call
+IsBrought Turn_comes = Unit {0}
 
 module _ (s : Setup) (Among : (c : ℕ) → (bytes : List ℕ) → Type 0) where
   -- contents that are sealed as an upload, with each cloud's object among those looked at
@@ -144,3 +150,18 @@ module _ (s : Setup) (Among : (c : ℕ) → (bytes : List ℕ) → Type 0) where
 
   abbrev pub IsSent : Sent → Type 0
   IsSent x = IsAsked x.cloud x.body
+
+  -- an answer that is given is so
+  abbrev pub IsGiven : (c : ℕ) → Option Message → Type 0
+  IsGiven c None = Unit {0}
+  IsGiven c (Some (Of_request request)) = Unit {0}
+  IsGiven c (Some (Of_answer request answer)) = IsHeard c answer
+
+  -- an event whose call writes bytes, and whose answer is so
+  abbrev pub IsPlace : Option Message → Place → Type 0
+  IsPlace message (Agent_has a x) = IsBrought x
+  IsPlace message (Space_has a x) = Unit {0}
+  IsPlace message (Cloud_has c Request_answered) = Unit {0}
+  IsPlace message (Cloud_has c Answer_given) = IsGiven c message
+  IsPlace message (Cloud_has c Message_moved) = Unit {0}
+  IsPlace message Nowhere = Unit {0}

@@ -1,0 +1,131 @@
+-- An event keeps what holds of the file map's versions, pieces and contents, and what it gives an open is what was closed.
+use Rattle.std.proofs.Common.{◌≡◌, ℕ, ◌+◌, ◌<◌, List, [], ◌∷◌, ◌++◌, length, refl, sym, ap, subst, arith, Option, Some, None, Ok, Err, Bool, true, false, slice_get, slice_set, length-append, eqb-true}
+use Rattle.std.specs.Prelude.{◌==◌, if◌then◌else◌, ◌-◌}
+use Rattle.scfs_base.specs.declared.naming.Digest.{Digest}
+use Rattle.scfs_base.specs.declared.naming.FileId.{FileId}
+use Rattle.scfs_base.specs.declared.naming.RequestNo.{RequestNo}
+use Rattle.scfs_base.specs.declared.naming.UploadNo.{UploadNo}
+use Rattle.scfs_base.specs.declared.cloud.CloudAnswer.{CloudAnswer}
+use Rattle.scfs_schedule.specs.declared.types.Line.{Line}
+use Rattle.scfs_schedule.specs.declared.types.Line.TheVariants as lines
+use Rattle.scfs_unit.specs.declared.pieces.KeptPiece.{KeptPiece}
+use Rattle.scfs_machine.specs.Lists.{moved_back}
+use Rattle.scfs_machine.specs.Format.{Setup, clouds_of, sealed}
+use Rattle.scfs_machine.specs.History.{Message, Of_request, Of_answer}
+use Rattle.scfs_machine.specs.Given.{Given}
+use Rattle.scfs_machine.specs.Tree.{Node, Lock, Tree, live, version_at, lock_on, session_lock, node_at, is_node_at}
+use Rattle.scfs_machine.specs.Walks.{OrRefusal, on_ok, file_at, free_file_at}
+use Rattle.scfs_machine.specs.SessionSteps.{Session_step, Open_read, Open_write, Commit, Session_outcome, Sees, Locks, Completes, session_outcome, session_after, still_held}
+use Rattle.scfs_machine.specs.Steps.{Step, On_names, On_locks, On_sessions, Outcome, after_ok, served}
+use Rattle.scfs_machine.specs.Agents.{Request, Agent, Input, Calls, Tells, Hears, Turns, Reaction}
+use Rattle.scfs_machine.specs.Reactions.{reacted}
+use Rattle.scfs_machine.specs.Events.{At_agent, Call_comes, Turn_comes, At_space, Step_served, Step_postponed, Reply_told, At_cloud, Request_answered, Answer_given, Message_moved, Place, Agent_has, Space_has, Cloud_has, Nowhere}
+use Rattle.scfs_machine.specs.States.{Reply, Seat, State, Effect, sum_of, leaving, at_seat, postpones, moves, did, answers_by, comes, serves, tells, gives, at_agent, at_space, at_cloud, at_place}
+use Rattle.scfs_machine.specs.Layers.{Version, closes}
+use Rattle.scfs_machine.proofs.SoundLists.{Each, Any, each_append, each_set, each_get, each_find, each_moved, on_there}
+use Rattle.scfs_machine.proofs.SoundKept.{IsWritten, IsVersion, IsStep, IsSessionStep, IsRequest, IsSessionOutcome, IsOk, IsOutcome, IsReply, IsAgent, IsReaction, IsSeat, IsState, IsHeard, IsInput, IsSent, IsBrought, IsGiven, IsPlace}
+use Rattle.scfs_machine.proofs.SoundReactions.{reacted_keeps}
+
+module _ (s : Setup) (Among : (c : ℕ) → (bytes : List ℕ) → Type 0) where
+  abbrev AreVersions : Tree Version → Type 0
+  AreVersions tree = Each (IsVersion s Among) tree.versions
+
+  -- a step that the space serves
+  ok_on : {X Y : Type 0} (P : Y → Type 0) (r : OrRefusal X) (on : X → Y) → ((x : X) → P (on x)) → IsOk s Among P (on_ok on r)
+  ok_on P (Ok x) on each = each x
+  ok_on P (Err why) on each = tt
+
+  outcome_keeps : (tree : Tree Version) (now until : ℕ) (request : RequestNo) (x : Session_step Version) → AreVersions tree → IsSessionStep s Among x
+      → IsOk s Among (IsSessionOutcome s Among) (session_outcome (closes s) tree now until request x)
+  outcome_keeps tree now until request (Open_read names h) k w =
+      ok_on (IsSessionOutcome s Among) (file_at tree.nodes names) _ (λ n. each_find (IsVersion s Among) _ tree.versions k)
+  outcome_keeps tree now until request (Open_write names h) k w =
+      ok_on (IsSessionOutcome s Among) (free_file_at tree.nodes tree.locks names) _ (λ n. each_find (IsVersion s Among) _ tree.versions k)
+  outcome_keeps tree now until request (Commit h v) k w =
+      ok_on (IsSessionOutcome s Among) (still_held (session_lock tree.locks request v.file h) (node_at tree.nodes v.file (v.number - 1))) _ (λ n. w)
+
+  after_keeps : (tree : Tree Version) (request : RequestNo) (r : OrRefusal (Session_outcome Version)) → AreVersions tree → IsOk s Among (IsSessionOutcome s Among) r
+      → AreVersions (after_ok tree (session_after (closes s) tree request) r)
+  after_keeps tree request (Ok (Sees sight)) k w = k
+  after_keeps tree request (Ok (Locks sight l)) k w = k
+  after_keeps tree request (Ok (Completes h v n)) k w = each_append (IsVersion s Among) tree.versions (v ∷ []) k (w, tt)
+  after_keeps tree request (Err why) k w = k
+
+  served_keeps : (tree : Tree Version) (now lease : ℕ) (request : RequestNo) (x : Step Version) → AreVersions tree → IsStep s Among x
+      → IsOutcome s Among (served (closes s) tree now lease request x).outcome × AreVersions (served (closes s) tree now lease request x).tree
+  served_keeps tree now lease request (On_names x) k w = (tt, k)
+  served_keeps tree now lease request (On_locks x) k w = (tt, k)
+  served_keeps tree now lease request (On_sessions x) k w =
+      let r = outcome_keeps tree now (now + lease) request x k w in
+      (r, after_keeps tree request (session_outcome (closes s) tree now (now + lease) request x) k r)
+
+  -- an event that leaves all so, where the objects that are put in it are among those looked at
+  abbrev pub Keeps : Effect Version → Type 0
+  Keeps e = Each (IsSent s Among) e.sent → IsState s Among e.state
+
+  module _ (state : State Version) (is : IsState s Among state) where
+    seat_keeps : (a : ℕ) (seat : Seat Version) → IsSeat s Among seat → Each (IsSeat s Among) (slice_set state.seats a seat)
+    seat_keeps a seat h = each_set (IsSeat s Among) state.seats a seat is.1 h
+
+    at_seat_keeps : (a : ℕ) (on : Seat Version → Effect Version) → ((seat : Seat Version) → IsSeat s Among seat → Keeps (on seat)) → Keeps (at_seat state a on)
+    at_seat_keeps a on each =
+        on_there (IsSeat s Among) Keeps (slice_get state.seats a) (leaving state []) on (each_get (IsSeat s Among) state.seats a is.1) (λ sent. is) each
+
+    serves_keep : (a : ℕ) (seat : Seat Version) (asked : List (Request Version)) → IsSeat s Among seat → Each (IsRequest s Among) asked
+        → Keeps (serves s (closes s) state a seat asked)
+    serves_keep a seat [] h k sent = is
+    serves_keep a seat (oldest ∷ rest) h k sent =
+        let x = served_keeps (live state.clock state.tree) state.clock s.header.lease oldest.number oldest.step is.0 k.0 in
+        (x.1, seat_keeps a _ (h.0, k.1, each_append (IsReply s Among) seat.replied (_ ∷ []) h.2 (x.0, tt)))
+
+    postpones_keep : (a : ℕ) (seat : Seat Version) (asked : List (Request Version)) → IsSeat s Among seat → Keeps (postpones state a seat asked)
+    postpones_keep a seat [] h sent = is
+    postpones_keep a seat (oldest ∷ rest) h sent = (is.0, seat_keeps a _ (h.0, each_moved (IsRequest s Among) seat.asked h.1, h.2))
+
+    moves_keep : (m : Option Message) → Keeps (moves state m)
+    moves_keep None sent = is
+    moves_keep (Some m) sent = is
+
+    answers_keep : (c : ℕ) (m : Option Message) → Keeps (answers_by s state c m)
+    answers_keep c None sent = is
+    answers_keep c (Some (Of_request request)) sent = is
+    answers_keep c (Some (Of_answer request answer)) sent = is
+
+    -- where a piece that passes for a cloud is of that cloud
+    module _ (of_cloud : (c : ℕ) (root : Digest) (bytes : List ℕ) (piece : KeptPiece) → c < clouds_of s
+        → s.format.check s.header.f c root bytes ≡ Some piece → piece.cloud ≡ c) (given : Given) where
+      comes_keep : (a : ℕ) (before : List Line) (input : Input Version) (seat : Seat Version) → IsInput s Among input → IsSeat s Among seat
+          → Keeps (comes s (closes s) state a given before input seat)
+      comes_keep a before input seat k h sent =
+          let r = reacted s (closes s) a seat.agent given input in
+          let kept = reacted_keeps s Among a of_cloud seat.agent h.0 given input k sent in
+          (is.0, seat_keeps a _ (kept.0, each_append (IsRequest s Among) seat.asked r.steps h.1 kept.1, h.2))
+
+      tells_keep : (a : ℕ) (seat : Seat Version) (replied : List (Reply Version)) → IsSeat s Among seat → Each (IsReply s Among) replied
+          → Keeps (tells s (closes s) state a given seat replied)
+      tells_keep a seat [] h k = λ sent. is
+      tells_keep a seat (oldest ∷ rest) h k =
+          comes_keep a [] (Tells oldest.number oldest.outcome) (record seat { replied = rest }) k.0 (h.0, h.1, k.1)
+
+      gives_keep : (c : ℕ) (m : Option Message) → IsGiven s Among c m → Keeps (gives s (closes s) state given c m)
+      gives_keep c None k = λ sent. is
+      gives_keep c (Some (Of_request request)) k = λ sent. is
+      gives_keep c (Some (Of_answer request answer)) k =
+          at_seat_keeps request.agent _ (λ seat h. comes_keep request.agent (lines.Gave c request (sum_of s answer) ∷ []) (Hears c request answer) seat k h)
+
+      agent_keeps : (a : ℕ) (x : At_agent) (seat : Seat Version) → IsBrought x → IsSeat s Among seat → Keeps (at_agent s (closes s) state given a x seat)
+      agent_keeps a (Call_comes call) seat k h = comes_keep a [] (Calls call) seat k h
+      agent_keeps a Turn_comes seat k h = comes_keep a [] Turns seat tt h
+
+      space_keeps : (a : ℕ) (x : At_space) (seat : Seat Version) → IsSeat s Among seat → Keeps (at_space s (closes s) state given a x seat)
+      space_keeps a Step_served seat h = serves_keep a seat seat.asked h h.1
+      space_keeps a Step_postponed seat h = postpones_keep a seat seat.asked h
+      space_keeps a Reply_told seat h = tells_keep a seat seat.replied h h.2
+
+      pub place_keeps : (m : Option Message) (place : Place) → IsPlace s Among m place → Keeps (at_place s (closes s) state m given place)
+      place_keeps m (Agent_has a x) k = at_seat_keeps a _ (λ seat h. agent_keeps a x seat k h)
+      place_keeps m (Space_has a x) k = at_seat_keeps a _ (λ seat h. space_keeps a x seat h)
+      place_keeps m (Cloud_has c Request_answered) k = answers_keep c m
+      place_keeps m (Cloud_has c Answer_given) k = gives_keep c m k
+      place_keeps m (Cloud_has c Message_moved) k = moves_keep m
+      place_keeps m Nowhere k = λ sent. is
