@@ -15,3 +15,5 @@ pub mod SoundCloses
 pub mod SoundReactions
 pub mod SoundStates
 pub mod SoundReads
+pub mod SoundAnswers
+pub mod SoundUnit
