@@ -17,3 +17,4 @@ pub mod SoundStates
 pub mod SoundReads
 pub mod SoundAnswers
 pub mod SoundUnit
+pub mod SoundLaw

@@ -25,6 +25,7 @@ use Rattle.scfs_unit.specs.Unsealing.{unseal}
 use Rattle.scfs_unit.proofs.CheckingLemmas.{checked-passed}
 use Rattle.scfs_unit.proofs.AcceptanceLemmas.{checked-object, IsPiece-checked}
 use Rattle.scfs_unit.proofs.UnsealLemmas.{unseal-some}
+use Rattle.scfs_machine.specs.Lists.{if_some}
 use Rattle.scfs_machine.specs.Format.{Setup, clouds_of, seed_of, object_at}
 use Rattle.scfs_machine.specs.Format as format
 use Rattle.scfs_machine.specs.UnitFormat.{draw_for, accepted, under}
@@ -156,5 +157,32 @@ module _ (header : Header) (whole : List (List ℕ)) (few : header.f ≤ 3) (apa
       let root = (sealed f draw v.bytes).root in
       let made = unit_piece f draw v.bytes in
       let there : object_at (sealed f draw v.bytes) piece.cloud ≡ object f draw v.bytes piece.cloud =
-      ap (λ o. format.if_some o [] (λ bytes. bytes)) (object_there (object f draw v.bytes) 0 (3 * f + 1) piece.cloud good.below) in
-      ?
+      ap (λ o. if_some o [] (λ bytes. bytes)) (object_there (object f draw v.bytes) 0 (3 * f + 1) piece.cloud good.below)
+      ∙ ap (object f draw v.bytes) (omega arith) in
+      let own_passes = checked-object f draw v.bytes piece.cloud (omega (arith, is.fits.small)) good.below in
+      let passes = accepted_is (checked f piece.cloud root good.bytes) piece good.passes in
+      let ours = subst (Among piece.cloud) there (is.objects piece.cloud good.below) in
+      let same = same_bytes f piece.cloud root whole good.bytes (object f draw v.bytes piece.cloud) apart
+      (has_passed f piece.cloud root whole good.bytes piece good.among passes)
+      (has_passed f piece.cloud root whole (object f draw v.bytes piece.cloud) (made piece.cloud) ours own_passes) in
+      let own : piece ≡ made piece.cloud =
+      same_piece _ _ piece (made piece.cloud) (ap (checked f piece.cloud root) same) passes own_passes in (
+        piece.cloud,
+        omega (arith, good.below, length-map-range_with_len made 0 (3 * f + 1)),
+        get_or-map-range_with_len made 0 (3 * f + 1) piece.cloud piece.cloud piece good.below (omega arith) ∙ sym own,
+      )
+
+  pub unit_is_faithful : IsFaithful s Among
+  unit_is_faithful = record {
+    of_cloud = λ c root bytes piece below passes.
+        (IsPiece-checked header.f c root bytes piece below (accepted_is (checked header.f c root bytes) piece passes)).0;
+    gives_back = λ v pieces is good count.
+        let seed = sha256 (draw_text (seed_of s v.upload.agent) v.upload) in
+        let root = (format.sealed s v.upload v.bytes).root in
+        unseal-some header.f (drawn seed header.f) v.bytes pieces few (IsDraw-drawn seed header.f) is.fits.are_bytes (record {
+          as_many = count;
+          different = good.different;
+          among = All-weaker (IsGood s Among root) (Contains (unit_pieces header.f (drawn seed header.f) v.bytes)) (λ piece. own_piece v piece is) pieces
+              (all_of_each (IsGood s Among root) pieces good.each);
+        });
+  }
