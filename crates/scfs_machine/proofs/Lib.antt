@@ -18,3 +18,14 @@ pub mod SoundReads
 pub mod SoundAnswers
 pub mod SoundUnit
 pub mod SoundLaw
+pub mod ListMaps
+pub mod AgentMaps
+pub mod OpenMaps
+pub mod CloseMaps
+pub mod SessionMaps
+pub mod StepMaps
+pub mod CallMaps
+pub mod ToldMaps
+pub mod ReactionMaps
+pub mod StateMaps
+pub mod TwoLayers

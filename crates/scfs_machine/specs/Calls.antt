@@ -11,7 +11,7 @@ use Rattle.scfs_machine.specs.Names.{file_id}
 use Rattle.scfs_machine.specs.Paths.{names_of}
 use Rattle.scfs_machine.specs.Format.{Setup}
 use Rattle.scfs_machine.specs.Walks.{OrRefusal}
-use Rattle.scfs_machine.specs.NameSteps.{Name_step, Make, Look}
+use Rattle.scfs_machine.specs.NameSteps.{Make, Look}
 use Rattle.scfs_machine.specs.SessionSteps.{Session_step, Open_read, Open_write}
 use Rattle.scfs_machine.specs.Steps.{Step, On_names, On_sessions}
 use Rattle.scfs_machine.specs.Sayings as says
