@@ -1,5 +1,5 @@
 -- Where no two different blocks of a history share a digest, each open from the clouds got what was closed as the version that it saw.
-use Rattle.std.proofs.Common.{◌≡◌, ℕ, ◌+◌, ◌*◌, ◌<◌, ◌≤◌, List, [], ◌∷◌, ◌++◌, length, refl, subst, Option, Some, None}
+use Rattle.std.proofs.Common.{◌≡◌, ℕ, ◌+◌, ◌*◌, ◌<◌, ◌≤◌, List, [], ◌∷◌, ◌++◌, length, ap, ◌∙◌, subst, Option, Some, None}
 use Rattle.std.specs.List.{Contains, flat_map}
 use Rattle.std.proofs.lemmas.List.Elements.{All-nil, Contains-append_left, Contains-append_right}
 use Rattle.scfs_base.specs.declared.cloud.CloudAnswer.{CloudAnswer}
@@ -19,13 +19,14 @@ use Rattle.scfs_machine.specs.History.{Message, Of_request, Of_answer, Entry, Hi
 use Rattle.scfs_machine.specs.Given.{given_of}
 use Rattle.scfs_machine.specs.Agents.{Sent, first_agent}
 use Rattle.scfs_machine.specs.Events.{Place, Agent_has, Space_has, Cloud_has, Nowhere, Request_answered, Answer_given, Message_moved, place_of}
-use Rattle.scfs_machine.specs.States.{first_state, first_seat}
-use Rattle.scfs_machine.specs.Layers.{rows, closes}
-use Rattle.scfs_machine.specs.Runs.{mapped, effect_after}
+use Rattle.scfs_machine.specs.States.{Effect, first_state, first_seat}
+use Rattle.scfs_machine.specs.Layers.{Row, rows, closes}
+use Rattle.scfs_machine.specs.Runs.{mapped, effect_of, effect_after}
 use Rattle.scfs_machine.specs.Clouds.{net, message_of, IsServed}
 use Rattle.scfs_machine.specs.Sound.{FitsPlace, WasClosed, IsSound}
 use Rattle.scfs_machine.specs.Blocks.{blocks_asked, blocks_sent, blocks_answered, blocks_at, new_blocks, blocks, NoClash}
 use Rattle.scfs_machine.specs.Laws.{WritesBytes, BringsBytes, AreEvents}
+use Rattle.scfs_machine.proofs.TwoLayers.{entry_alike, states_alike}
 use Rattle.scfs_machine.proofs.SoundLists.{Each, each_replicate}
 use Rattle.scfs_machine.proofs.SoundKept.{IsSession, IsWritten, IsSeat, IsState, IsHeard, IsGiven, IsPlace, IsAsked, IsSent}
 use Rattle.scfs_machine.proofs.SoundStates.{place_keeps}
@@ -132,3 +133,14 @@ module _ (header : Header) (whole : List (List ℕ)) where
         let kept = place_keeps s Among (mapped s past) before.1 faithful.of_cloud (given_of (mapped s past).clock e) e.message (place_of e.event) place
         (subst (Each (IsSent s Among)) (alike past e before.0 sound) put) in
         ((sound, before.0), kept)
+
+-- agents put the same whether versions are rows or closes, as long as each open got what was closed
+sent_alike : (s : Setup) (past : History) (e : Entry) → IsSound s past → FitsPlace s WasClosed (mapped s past) e.message (place_of e.event)
+    → (effect_after s rows past e).sent ≡ (effect_after s (closes s) past e).sent
+sent_alike s past e sound now =
+    ap (λ x. (effect_of s rows x e).sent) (states_alike s past sound) ∙ ap (λ (x : Effect Row). x.sent) (entry_alike s (mapped s past) e now)
+
+pub sound_without_clash : (header : Header) (past : History) → IsHeader header → IsServed (under header) past → AreEvents header past → NoClash header past
+    → IsSound (under header) past
+sound_without_clash header past ok served valid apart =
+    (past_is_sound header (blocks header past) (sent_alike (under header)) ok.f.1 apart past served valid (λ block there. there)).0
