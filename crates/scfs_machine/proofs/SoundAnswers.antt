@@ -1,21 +1,20 @@
 -- What holds of each answer that a cloud made holds of each that an agent is given.
-use Rattle.std.proofs.Common.{◌≡◌, ℕ, zero, suc, ◌+◌, ◌*◌, List, [], ◌∷◌, ◌++◌, take, drop, get_or, set, replicate, refl, sym, ap, subst, Option, Some, None, ◌⊎◌, inl, inr}
-use Rattle.scfs_base.specs.declared.naming.RequestNo.{RequestNo}
+use Rattle.std.proofs.Common.{◌≡◌, ℕ, zero, suc, ◌+◌, ◌*◌, List, [], ◌∷◌, take, drop, get_or, set, replicate, refl, sym, ap, subst, Option, Some, None, ◌⊎◌, inl, inr}
 use Rattle.scfs_base.specs.declared.cloud.CloudAnswer.{CloudAnswer}
 use Rattle.scfs_base.specs.declared.cloud.CloudAnswer.TheVariants as answers
 use Rattle.scfs_schedule.specs.declared.types.Event.{Event}
 use Rattle.scfs_schedule.specs.declared.types.Event.TheVariants as events
 use Rattle.scfs_net.specs.declared.messages.Asked.{Asked}
 use Rattle.scfs_net.specs.declared.messages.Given.{Given}
-use Rattle.scfs_net.specs.Queues.{CloudState, NetState, Answering, new_cloud, new_net, cloud_at, at_cloud, net_asked, net_answered, net_did, answer_to, after_answer, asked, answered, serving, hiding, always, lost, taken, deferred, swapped, repeated, doubled}
+use Rattle.scfs_net.specs.Queues.{CloudState, NetState, Answering, new_cloud, cloud_at, at_cloud, net_answered, net_did, answer_to, after_answer, asked, answered, serving, hiding, always, lost, taken, deferred, swapped, repeated, doubled}
 use Rattle.scfs_machine.specs.Lists.{first_of}
 use Rattle.scfs_machine.specs.Format.{Setup}
 use Rattle.scfs_machine.specs.History.{Message, Of_request, Of_answer, Entry, History}
 use Rattle.scfs_machine.specs.Agents.{Sent}
-use Rattle.scfs_machine.specs.Events.{Place, Agent_has, Space_has, Cloud_has, Nowhere, Request_answered, Answer_given, Message_moved, place_of}
+use Rattle.scfs_machine.specs.Events.{Place, Cloud_has, Request_answered, place_of}
 use Rattle.scfs_machine.specs.Layers.{rows}
 use Rattle.scfs_machine.specs.Runs.{effect_after}
-use Rattle.scfs_machine.specs.Clouds.{moved_by, asked_by, all_asked, net, did_message, reply_message, oldest_reply, message_of, IsServed}
+use Rattle.scfs_machine.specs.Clouds.{moved_by, asked_by, all_asked, net, did_message, reply_message, message_of, IsServed}
 use Rattle.scfs_machine.proofs.SoundLists.{Each, each_append}
 
 set_cases : {X : Type 0} (xs : List X) (n c : ℕ) (v d : X) → (get_or (set xs n v) c d ≡ get_or xs c d) ⊎ ((n ≡ c) × (get_or (set xs n v) c d ≡ v))

@@ -1,5 +1,5 @@
 -- A call keeps what holds of an agent's versions and sessions.
-use Rattle.std.proofs.Common.{ℕ, ◌+◌, List, ◌∷◌, [], length, Option, Some, None, Result, Ok, Err, Bool, true, false, cond, nat_lt, IfSome}
+use Rattle.std.proofs.Common.{ℕ, ◌+◌, List, ◌∷◌, [], length, Option, Some, None, Result, Ok, Err, nat_lt, IfSome}
 use Rattle.scfs_schedule.specs.declared.types.Call.{Call}
 use Rattle.scfs_schedule.specs.declared.types.Call.TheVariants as calls
 use Rattle.scfs_schedule.specs.declared.types.Refusal.{Refusal}

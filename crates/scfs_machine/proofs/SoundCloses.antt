@@ -1,9 +1,7 @@
 -- An upload, from its beginning to its commit, keeps what holds of an agent's versions and sessions.
-use Rattle.std.proofs.Common.{◌≡◌, ℕ, zero, suc, ◌+◌, ◌<◌, List, [], ◌∷◌, map, refl, subst, arith, eq-or-lt_of_le, inl, inr, ◌≤◌, Option, Some, None, Bool, true, false}
-use Rattle.std.specs.Prelude.{if◌then◌else◌}
+use Rattle.std.proofs.Common.{ℕ, zero, suc, ◌+◌, ◌<◌, List, map, subst, arith, eq-or-lt_of_le, inl, inr, ◌≤◌}
 use Rattle.std.specs.List.{range_with_len}
 use Rattle.scfs_base.specs.declared.naming.RequestNo.{RequestNo}
-use Rattle.scfs_base.specs.declared.naming.UploadNo.{UploadNo}
 use Rattle.scfs_base.specs.declared.cloud.CloudAnswer.{CloudAnswer}
 use Rattle.scfs_base.specs.declared.cloud.CloudRequest.TheVariants as requests
 use Rattle.scfs_machine.specs.Lists.{below}
@@ -12,11 +10,11 @@ use Rattle.scfs_machine.specs.Format.{Setup, clouds_of, sealed, object_at}
 use Rattle.scfs_machine.specs.Asked.{Asked, asked_of}
 use Rattle.scfs_machine.specs.Next.{Next, Goes_on, Asks, Has, Gives_up}
 use Rattle.scfs_machine.specs.Storing.{is_new_ack, with_ack, store_on, store_turn}
-use Rattle.scfs_machine.specs.Agents.{Upload, Closed, Agent, Reaction, Sent}
+use Rattle.scfs_machine.specs.Agents.{Upload, Closed, Agent, Reaction}
 use Rattle.scfs_machine.specs.Closes.{with_storing, stores, upload_hears, upload_turns, begins}
 use Rattle.scfs_machine.specs.Layers.{Version, closes}
 use Rattle.scfs_machine.proofs.SoundLists.{Each, either}
-use Rattle.scfs_machine.proofs.SoundKept.{IsSession, IsUpload, IsClosed, IsAgent, IsReaction, IsSent}
+use Rattle.scfs_machine.proofs.SoundKept.{IsSession, IsUpload, IsAgent, IsReaction, IsSent}
 
 module _ (s : Setup) (Among : (c : ℕ) → (bytes : List ℕ) → Type 0) (a : ℕ) where
   abbrev Is : Reaction Version → Type 0

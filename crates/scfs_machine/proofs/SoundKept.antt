@@ -1,5 +1,5 @@
 -- What holds of the versions, pieces and contents in every part of the file map, where the objects of each upload are among those looked at.
-use Rattle.std.specs.Prelude.{◌≡◌, ℕ, ◌<◌, ◌≤◌, ◌≢◌, List, length, map, Option, Some, None, Result, Ok, Err}
+use Rattle.std.specs.Prelude.{◌≡◌, ℕ, ◌<◌, ◌≤◌, ◌≢◌, List, length, map, Option, Some, None, Ok, Err}
 use Rattle.std.specs.List.{All, AllPairs}
 use Rattle.std.specs.Map.{values_of}
 use Rattle.scfs_base.specs.declared.naming.Digest.{Digest}

@@ -1,6 +1,5 @@
 -- Where no two different blocks of a history share a digest, each open from the clouds got what was closed as the version that it saw.
-use Rattle.std.proofs.Common.{◌≡◌, ℕ, ◌+◌, ◌*◌, ◌<◌, ◌≤◌, List, [], ◌∷◌, ◌++◌, length, ap, ◌∙◌, subst, Option, Some, None}
-use Rattle.std.specs.List.{Contains, flat_map}
+use Rattle.std.proofs.Common.{◌≡◌, ℕ, ◌<◌, ◌≤◌, List, [], ◌∷◌, ◌++◌, length, ap, ◌∙◌, subst, Option, Some, None}
 use Rattle.std.proofs.lemmas.List.Elements.{All-nil, Contains-append_left, Contains-append_right}
 use Rattle.scfs_base.specs.declared.cloud.CloudAnswer.{CloudAnswer}
 use Rattle.scfs_base.specs.declared.cloud.CloudAnswer.TheVariants as answers
@@ -17,8 +16,8 @@ use Rattle.scfs_machine.specs.Format.{Setup, clouds_of}
 use Rattle.scfs_machine.specs.UnitFormat.{under}
 use Rattle.scfs_machine.specs.History.{Message, Of_request, Of_answer, Entry, History}
 use Rattle.scfs_machine.specs.Given.{given_of}
-use Rattle.scfs_machine.specs.Agents.{Sent, first_agent}
-use Rattle.scfs_machine.specs.Events.{Place, Agent_has, Space_has, Cloud_has, Nowhere, Request_answered, Answer_given, Message_moved, place_of}
+use Rattle.scfs_machine.specs.Agents.{Sent}
+use Rattle.scfs_machine.specs.Events.{Place, Cloud_has, Request_answered, place_of}
 use Rattle.scfs_machine.specs.States.{Effect, first_state, first_seat}
 use Rattle.scfs_machine.specs.Layers.{Row, rows, closes}
 use Rattle.scfs_machine.specs.Runs.{mapped, effect_of, effect_after}
@@ -87,9 +86,10 @@ module _ (header : Header) (whole : List (List ℕ)) where
   all_made [] h = tt
   all_made (e ∷ past) h =
       let now = blocks_at header.f e.message (place_of e.event) in
-      let sent = blocks_sent header.f (effect_after s rows past e).sent in
-      (made_at e.message (place_of e.event) (among_front now sent whole (among_front (now ++ sent) (blocks header past) whole h)),
-      all_made past (among_back (now ++ sent) (blocks header past) whole h))
+      let sent = blocks_sent header.f (effect_after s rows past e).sent in (
+        made_at e.message (place_of e.event) (among_front now sent whole (among_front (now ++ sent) (blocks header past) whole h)),
+        all_made past (among_back (now ++ sent) (blocks header past) whole h),
+      )
 
   -- an event of the header
   placed : (past : History) (event : Event) (message : Option Message) → IsServed s past → AreMade IsAnswer past → IsEvent header event → BringsBytes event

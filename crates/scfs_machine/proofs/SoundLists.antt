@@ -1,8 +1,8 @@
 -- A fact of each item of a list, by recursion on the list.
-use Rattle.std.proofs.Common.{◌≡◌, ℕ, zero, suc, ◌<◌, List, [], ◌∷◌, ◌++◌, map, take, drop, length, get_or, replicate, refl, sym, ap, subst, arith, Option, Some, None, Bool, true, false, cond, slice_get, slice_set, if◌then◌else◌}
+use Rattle.std.proofs.Common.{ℕ, zero, suc, List, [], ◌∷◌, ◌++◌, replicate, arith, Option, Some, None, Bool, true, false, slice_get, slice_set, if◌then◌else◌}
 use Rattle.std.specs.Prelude.{find}
 use Rattle.std.specs.List.{All}
-use Rattle.scfs_machine.specs.Lists.{if_some, moved_back, without_first}
+use Rattle.scfs_machine.specs.Lists.{if_some, moved_back}
 
 module _ {X : Type 0} where
   abbrev pub Each : (X → Type 0) → List X → Type 0

@@ -1,5 +1,5 @@
 -- An open, from its sight to its session, keeps what holds of an agent's versions and sessions.
-use Rattle.std.proofs.Common.{◌≡◌, ℕ, ◌+◌, ◌<◌, List, refl, Option, Some, None, Bool, true, false, ◌∷◌, []}
+use Rattle.std.proofs.Common.{◌≡◌, ℕ, ◌+◌, ◌<◌, List, refl, Option, Some, None, Bool, true, false}
 use Rattle.std.specs.Prelude.{◌==◌, is_some, if◌then◌else◌}
 use Rattle.scfs_base.specs.declared.naming.Digest.{Digest}
 use Rattle.scfs_base.specs.declared.naming.RequestNo.{RequestNo}
@@ -14,7 +14,7 @@ use Rattle.scfs_machine.specs.SessionSteps.{Sight}
 use Rattle.scfs_machine.specs.Next.{Next, Goes_on, Asks, Has, Gives_up}
 use Rattle.scfs_machine.specs.Reading.{piece_in, is_awaited, with_piece, read_on, read_turn}
 use Rattle.scfs_machine.specs.Agents.{Opening, Agent, Reaction}
-use Rattle.scfs_machine.specs.Opens.{Found, As_empty, On_clouds, found_version, found, opened, asks_gets, begins_open, sighted, saw, gives_up, reads, tallied, takes, open_hears, open_turns}
+use Rattle.scfs_machine.specs.Opens.{Found, As_empty, On_clouds, found_version, found, opened, asks_gets, sighted, saw, gives_up, reads, tallied, takes, open_hears, open_turns}
 use Rattle.scfs_machine.specs.Layers.{Version, closes}
 use Rattle.scfs_machine.proofs.SoundLists.{Any, either}
 use Rattle.scfs_machine.proofs.SoundKept.{IsSession, IsVersion, IsOpening, IsHeard, IsAgent, IsReaction}

@@ -12,7 +12,7 @@ use Rattle.scfs_base.specs.declared.cloud.CloudAnswer.TheVariants as answers
 use Rattle.scfs_unit.specs.declared.pieces.KeptPiece.{KeptPiece}
 use Rattle.scfs_machine.specs.Format.{Setup, clouds_of}
 use Rattle.scfs_machine.specs.Asked.{is_answer_to}
-use Rattle.scfs_machine.specs.Reading.{Reading, if_size, piece_in, is_good, is_awaited, with_piece}
+use Rattle.scfs_machine.specs.Reading.{Reading, if_size, piece_in, is_good, is_awaited}
 use Rattle.scfs_machine.proofs.SoundLists.{each_append}
 use Rattle.scfs_machine.proofs.SoundKept.{IsGood, AreGood, IsHeard}
 

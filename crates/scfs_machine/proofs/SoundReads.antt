@@ -7,8 +7,8 @@ use Rattle.scfs_base.specs.declared.cloud.CloudAnswer.{CloudAnswer}
 use Rattle.scfs_unit.specs.declared.pieces.KeptPiece.{KeptPiece}
 use Rattle.scfs_machine.specs.Format.{Setup, clouds_of, sealed}
 use Rattle.scfs_machine.specs.History.{Message, Of_request, Of_answer}
-use Rattle.scfs_machine.specs.Next.{Next, Goes_on, Has}
-use Rattle.scfs_machine.specs.Reading.{piece_in, is_awaited, read_on}
+use Rattle.scfs_machine.specs.Next.{Goes_on, Has}
+use Rattle.scfs_machine.specs.Reading.{piece_in, read_on}
 use Rattle.scfs_machine.specs.Agents.{Opening, Waiting, For_step, For_clouds, For_close}
 use Rattle.scfs_machine.specs.Events.{Place, Agent_has, Space_has, Cloud_has, Nowhere, Request_answered, Answer_given, Message_moved}
 use Rattle.scfs_machine.specs.States.{Seat, State}

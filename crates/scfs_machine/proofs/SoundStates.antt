@@ -1,29 +1,25 @@
 -- An event keeps what holds of the file map's versions, pieces and contents, and what it gives an open is what was closed.
-use Rattle.std.proofs.Common.{◌≡◌, ℕ, ◌+◌, ◌<◌, List, [], ◌∷◌, ◌++◌, length, refl, sym, ap, subst, arith, Option, Some, None, Ok, Err, Bool, true, false, slice_get, slice_set, length-append, eqb-true}
-use Rattle.std.specs.Prelude.{◌==◌, if◌then◌else◌, ◌-◌}
+use Rattle.std.proofs.Common.{◌≡◌, ℕ, ◌+◌, ◌<◌, List, [], ◌∷◌, Option, Some, None, Ok, Err, slice_get, slice_set}
+use Rattle.std.specs.Prelude.{◌-◌}
 use Rattle.scfs_base.specs.declared.naming.Digest.{Digest}
-use Rattle.scfs_base.specs.declared.naming.FileId.{FileId}
 use Rattle.scfs_base.specs.declared.naming.RequestNo.{RequestNo}
-use Rattle.scfs_base.specs.declared.naming.UploadNo.{UploadNo}
-use Rattle.scfs_base.specs.declared.cloud.CloudAnswer.{CloudAnswer}
 use Rattle.scfs_schedule.specs.declared.types.Line.{Line}
 use Rattle.scfs_schedule.specs.declared.types.Line.TheVariants as lines
 use Rattle.scfs_unit.specs.declared.pieces.KeptPiece.{KeptPiece}
-use Rattle.scfs_machine.specs.Lists.{moved_back}
-use Rattle.scfs_machine.specs.Format.{Setup, clouds_of, sealed}
+use Rattle.scfs_machine.specs.Format.{Setup, clouds_of}
 use Rattle.scfs_machine.specs.History.{Message, Of_request, Of_answer}
 use Rattle.scfs_machine.specs.Given.{Given}
-use Rattle.scfs_machine.specs.Tree.{Node, Lock, Tree, live, version_at, lock_on, session_lock, node_at, is_node_at}
+use Rattle.scfs_machine.specs.Tree.{Tree, live, session_lock, node_at}
 use Rattle.scfs_machine.specs.Walks.{OrRefusal, on_ok, file_at, free_file_at}
 use Rattle.scfs_machine.specs.SessionSteps.{Session_step, Open_read, Open_write, Commit, Session_outcome, Sees, Locks, Completes, session_outcome, session_after, still_held}
-use Rattle.scfs_machine.specs.Steps.{Step, On_names, On_locks, On_sessions, Outcome, after_ok, served}
-use Rattle.scfs_machine.specs.Agents.{Request, Agent, Input, Calls, Tells, Hears, Turns, Reaction}
+use Rattle.scfs_machine.specs.Steps.{Step, On_names, On_locks, On_sessions, after_ok, served}
+use Rattle.scfs_machine.specs.Agents.{Request, Input, Calls, Tells, Hears, Turns}
 use Rattle.scfs_machine.specs.Reactions.{reacted}
-use Rattle.scfs_machine.specs.Events.{At_agent, Call_comes, Turn_comes, At_space, Step_served, Step_postponed, Reply_told, At_cloud, Request_answered, Answer_given, Message_moved, Place, Agent_has, Space_has, Cloud_has, Nowhere}
-use Rattle.scfs_machine.specs.States.{Reply, Seat, State, Effect, sum_of, leaving, at_seat, postpones, moves, did, answers_by, comes, serves, tells, gives, at_agent, at_space, at_cloud, at_place}
+use Rattle.scfs_machine.specs.Events.{At_agent, Call_comes, Turn_comes, At_space, Step_served, Step_postponed, Reply_told, Request_answered, Answer_given, Message_moved, Place, Agent_has, Space_has, Cloud_has, Nowhere}
+use Rattle.scfs_machine.specs.States.{Reply, Seat, State, Effect, sum_of, leaving, at_seat, postpones, moves, answers_by, comes, serves, tells, gives, at_agent, at_space, at_place}
 use Rattle.scfs_machine.specs.Layers.{Version, closes}
-use Rattle.scfs_machine.proofs.SoundLists.{Each, Any, each_append, each_set, each_get, each_find, each_moved, on_there}
-use Rattle.scfs_machine.proofs.SoundKept.{IsWritten, IsVersion, IsStep, IsSessionStep, IsRequest, IsSessionOutcome, IsOk, IsOutcome, IsReply, IsAgent, IsReaction, IsSeat, IsState, IsHeard, IsInput, IsSent, IsBrought, IsGiven, IsPlace}
+use Rattle.scfs_machine.proofs.SoundLists.{Each, each_append, each_set, each_get, each_find, each_moved, on_there}
+use Rattle.scfs_machine.proofs.SoundKept.{IsVersion, IsStep, IsSessionStep, IsRequest, IsSessionOutcome, IsOk, IsOutcome, IsReply, IsSeat, IsState, IsInput, IsSent, IsBrought, IsGiven, IsPlace}
 use Rattle.scfs_machine.proofs.SoundReactions.{reacted_keeps}
 
 module _ (s : Setup) (Among : (c : ℕ) → (bytes : List ℕ) → Type 0) where

@@ -1,8 +1,8 @@
 -- Where no two different blocks share a digest, f + 1 good pieces of different clouds under the root of a seal give back what was sealed.
-use Rattle.std.proofs.Common.{◌≡◌, ℕ, zero, suc, ◌+◌, ◌*◌, ◌/◌, ◌%◌, ◌^◌, ◌<◌, ◌≤◌, List, [], ◌∷◌, ◌++◌, length, map, take, get_or, replicate, refl, sym, ap, ap₂, ◌∙◌, subst, arith, Option, Some, None, Result, Ok, Err, Bool, true, false, cond, slice_get, take-append-drop}
+use Rattle.std.proofs.Common.{◌≡◌, ℕ, zero, suc, ◌+◌, ◌*◌, ◌/◌, ◌%◌, ◌<◌, ◌≤◌, List, [], ◌∷◌, ◌++◌, length, map, replicate, refl, sym, ap, ap₂, ◌∙◌, subst, arith, Some, Result, Ok, Err, Bool, true, false, cond, slice_get, take-append-drop}
 use Rattle.std.specs.Prelude.{nat_le, ◌==◌}
 use Rattle.std.specs.Int.{byte_at}
-use Rattle.std.specs.List.{All, Contains, range_with_len}
+use Rattle.std.specs.List.{Contains, range_with_len}
 use Rattle.std.proofs.lemmas.Bool.{and_parts, leb-true, le-leb, cond-true}
 use Rattle.std.proofs.lemmas.List.Elements.{All-nil, All-cons, All-from_get_or, All-replicate, All-weaker}
 use Rattle.std.proofs.lemmas.List.FromFn.{length-map-range_with_len, get_or-map-range_with_len}
@@ -14,14 +14,12 @@ use Rattle.scfs_digest.specs.Texts.{root_text, block_text, draw_text}
 use Rattle.scfs_shamir.specs.Recovery.{IsRow}
 use Rattle.scfs_stream.specs.Stream.{stream_part, stream_byte, stream_word}
 use Rattle.scfs_stream.specs.Drawn.{drawn_row, drawn}
-use Rattle.scfs_stream.specs.declared.sealing.Draw.{Draw}
 use Rattle.scfs_stream.proofs.StreamFacts.{length-stream_part, get_or-stream_part}
 use Rattle.scfs_unit.specs.declared.pieces.KeptPiece.{KeptPiece}
 use Rattle.scfs_unit.specs.declared.pieces.BadPiece.{BadPiece}
 use Rattle.scfs_unit.specs.Unit.{unit_piece, unit_pieces, object, sealed, IsDraw}
 use Rattle.scfs_unit.specs.Checking.{manifest_size, object_size, length_in, manifest_in, rest_in, digest_in, has_length, has_root, has_piece, checked}
 use Rattle.scfs_unit.specs.Clash.{blocks_of_answer, NoClash}
-use Rattle.scfs_unit.specs.Unsealing.{unseal}
 use Rattle.scfs_unit.proofs.CheckingLemmas.{checked-passed}
 use Rattle.scfs_unit.proofs.AcceptanceLemmas.{checked-object, IsPiece-checked}
 use Rattle.scfs_unit.proofs.UnsealLemmas.{unseal-some}
@@ -31,7 +29,7 @@ use Rattle.scfs_machine.specs.Format as format
 use Rattle.scfs_machine.specs.UnitFormat.{draw_for, accepted, under}
 use Rattle.scfs_machine.specs.Layers.{Version}
 use Rattle.scfs_machine.proofs.SoundLists.{all_of_each}
-use Rattle.scfs_machine.proofs.SoundKept.{IsVersion, IsGood, AreGood}
+use Rattle.scfs_machine.proofs.SoundKept.{IsVersion, IsGood}
 use Rattle.scfs_machine.proofs.SoundReads.{IsFaithful}
 
 -- each of these blocks is among those

@@ -4,7 +4,6 @@ use Rattle.scfs_base.specs.declared.cloud.CloudAnswer.{CloudAnswer}
 use Rattle.scfs_base.specs.declared.cloud.CloudAnswer.TheVariants as answers
 use Rattle.scfs_base.specs.declared.cloud.CloudRequest.{CloudRequest}
 use Rattle.scfs_base.specs.declared.cloud.CloudRequest.TheVariants as requests
-use Rattle.scfs_schedule.specs.declared.types.Event.{Event}
 use Rattle.scfs_schedule.specs.declared.types.Header.{Header}
 use Rattle.scfs_unit.specs.Clash.{blocks_of_answer}
 use Rattle.scfs_unit.specs.Clash as unit

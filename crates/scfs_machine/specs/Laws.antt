@@ -1,4 +1,4 @@
-use Rattle.std.specs.Prelude.{◌≡◌, ◌≤◌, ℕ, List, [], ◌∷◌, length, find, Bool, ◌&&◌, ◌==◌, if◌then◌else◌, None, Contains}
+use Rattle.std.specs.Prelude.{◌≡◌, ℕ, List, [], ◌∷◌, find, Bool, ◌&&◌, None}
 use Rattle.std.specs.Str.{bytes_eq}
 use Rattle.scfs_base.specs.declared.naming.FileId.{FileId}
 use Rattle.scfs_gf256.specs.Polynomials.{AreBytes}
@@ -9,11 +9,9 @@ use Rattle.scfs_schedule.specs.declared.types.Event.{Event}
 use Rattle.scfs_schedule.specs.declared.types.Event.TheVariants as events
 use Rattle.scfs_schedule.specs.declared.types.Header.{Header}
 use Rattle.scfs_machine.specs.Names.{same_file}
-use Rattle.scfs_machine.specs.Format.{Setup}
 use Rattle.scfs_machine.specs.UnitFormat.{under}
-use Rattle.scfs_machine.specs.History.{Entry, History}
+use Rattle.scfs_machine.specs.History.{History}
 use Rattle.scfs_machine.specs.Tree.{Node}
-use Rattle.scfs_machine.specs.Runs.{mapped, Happens, Run}
 use Rattle.scfs_machine.specs.Clouds.{IsServed}
 use Rattle.scfs_machine.specs.Blocks.{NoClash}
 use Rattle.scfs_machine.specs.Sound.{IsSound}
