@@ -59,6 +59,11 @@ module _ (s : Setup) (Among : (c : ℕ) → (bytes : List ℕ) → Type 0) where
     pub passes : s.format.check s.header.f piece.cloud root bytes ≡ Some piece
     pub among : Among piece.cloud bytes
 
+  -- such a piece, of this cloud
+  pub record IsFrom (root : Digest) (c : ℕ) (piece : KeptPiece) : Type 0 where
+    pub cloud : piece.cloud ≡ c
+    pub good : IsGood root piece
+
   -- such pieces, of different clouds
   pub record AreGood (root : Digest) (pieces : List KeptPiece) : Type 0 where
     pub each : Each (IsGood root) pieces
@@ -127,13 +132,11 @@ module _ (s : Setup) (Among : (c : ℕ) → (bytes : List ℕ) → Type 0) where
   abbrev pub IsState : State Version → Type 0
   IsState state = Each IsVersion state.tree.versions × Each IsSeat state.seats
 
-  -- an answer that is of one of the clouds, with its bytes among them
+  -- an answer of a cloud whose bytes, where they pass under a root, have a good piece of that cloud
   abbrev pub IsHeard : (c : ℕ) → CloudAnswer → Type 0
-  IsHeard c answers.Ack = Unit {0}
-  IsHeard c answers.Absent = Unit {0}
-  IsHeard c (answers.Bytes bytes) = (c < clouds_of s) × Among c bytes
-  IsHeard c (answers.Names names) = Unit {0}
-  IsHeard c answers.Fail = Unit {0}
+  IsHeard c (answers.Bytes bytes) =
+      (root : Digest) (piece : KeptPiece) → s.format.check s.header.f c root bytes ≡ Some piece → IsFrom root c piece
+  IsHeard c other = Unit {0}
 
   abbrev pub IsInput : Input Version → Type 0
   IsInput (Calls call) = IsWritten call

@@ -31,7 +31,7 @@ use Rattle.scfs_machine.proofs.SoundKept.{IsSession, IsWritten, IsSeat, IsState,
 use Rattle.scfs_machine.proofs.SoundStates.{place_keeps}
 use Rattle.scfs_machine.proofs.SoundReads.{place_fits}
 use Rattle.scfs_machine.proofs.SoundAnswers.{IsOf, IsMade, AreMade, given_made}
-use Rattle.scfs_machine.proofs.SoundUnit.{AreAmong, IsAmong, unit_is_faithful}
+use Rattle.scfs_machine.proofs.SoundUnit.{AreAmong, IsAmong, heard, gives_back}
 
 -- blocks of a part are among those of the whole
 among_front : (xs ys whole : List (List ℕ)) → AreAmong (xs ++ ys) whole → AreAmong xs whole
@@ -50,7 +50,13 @@ written : (call : Call) → WritesBytes call → IsWritten call
 written (calls.Write h offset new) k = k
 written other k = tt
 
-module _ (header : Header) (whole : List (List ℕ)) where
+-- agents put the same whether versions are rows or closes, as long as each open got what was closed
+sent_alike : (s : Setup) (past : History) (e : Entry) → IsSound s past → FitsPlace s WasClosed (mapped s past) e.message (place_of e.event)
+    → (effect_after s rows past e).sent ≡ (effect_after s (closes s) past e).sent
+sent_alike s past e sound now =
+    ap (λ x. (effect_of s rows x e).sent) (states_alike s past sound) ∙ ap (λ (x : Effect Row). x.sent) (entry_alike s (mapped s past) e now)
+
+module _ (header : Header) (whole : List (List ℕ)) (few : header.f ≤ 3) (apart : unit.NoClash whole) where
   abbrev s : Setup
   s = under header
 
@@ -61,17 +67,9 @@ module _ (header : Header) (whole : List (List ℕ)) where
   abbrev IsAnswer : (c : ℕ) → CloudAnswer → Type 0
   IsAnswer c answer = AreAmong (blocks_answered header.f c answer) whole
 
-  answer_heard : (c : ℕ) (answer : CloudAnswer) → c < clouds_of s → IsAnswer c answer → IsHeard s Among c answer
-  answer_heard c answers.Ack below h = tt
-  answer_heard c answers.Absent below h = tt
-  answer_heard c (answers.Bytes bytes) below h = (below, h)
-  answer_heard c (answers.Names names) below h = tt
-  answer_heard c answers.Fail below h = tt
-
   given_heard : (c : ℕ) (message : Option Message) → c < clouds_of s → IsOf IsAnswer c message → IsGiven s Among c message
-  given_heard c None below h = tt
-  given_heard c (Some (Of_request request)) below h = tt
-  given_heard c (Some (Of_answer request answer)) below h = answer_heard c answer below h
+  given_heard c (Some (Of_answer request (answers.Bytes bytes))) below h = heard header whole few apart c bytes below h
+  given_heard c other below h = tt
 
   made_is : (c : ℕ) (message : Option Message) → AreAmong (blocks_at header.f message (Cloud_has c Request_answered)) whole → IsOf IsAnswer c message
   made_is c None h = tt
@@ -114,33 +112,22 @@ module _ (header : Header) (whole : List (List ℕ)) where
   first_is : IsState s Among (first_state s)
   first_is = (tt, each_replicate (IsSeat s Among) (length header.agents) (first_seat s) ((tt, All-nil IsSession, tt), tt, tt))
 
-  -- where agents put the same whether versions are rows or closes, as long as each open got what was closed
-  module _ (alike : (past : History) (e : Entry) → IsSound s past → FitsPlace s WasClosed (mapped s past) e.message (place_of e.event)
-      → (effect_after s rows past e).sent ≡ (effect_after s (closes s) past e).sent)
-      (few : header.f ≤ 3) (apart : unit.NoClash whole) where
-    past_is_sound : (past : History) → IsServed s past → AreEvents header past → AreAmong (blocks header past) whole
-        → IsSound s past × IsState s Among (mapped s past)
-    past_is_sound [] served valid among = (tt, first_is)
-    past_is_sound (e ∷ past) served valid among =
-        let now = blocks_at header.f e.message (place_of e.event) in
-        let sent = blocks_sent header.f (effect_after s rows past e).sent in
-        let less = among_back (now ++ sent) (blocks header past) whole among in
-        let before = past_is_sound past served.1 valid.2 less in
-        let place = placed past e.event e.message served.1 (all_made past less) valid.0 valid.1 served.0 in
-        let faithful = unit_is_faithful header whole few apart in
-        let sound = place_fits s Among faithful (mapped s past) before.1 e.message (place_of e.event) place in
-        let put = sent_is (effect_after s rows past e).sent (among_back now sent whole (among_front (now ++ sent) (blocks header past) whole among)) in
-        let kept = place_keeps s Among (mapped s past) before.1 faithful.of_cloud (given_of (mapped s past).clock e) e.message (place_of e.event) place
-        (subst (Each (IsSent s Among)) (alike past e before.0 sound) put) in
-        ((sound, before.0), kept)
-
--- agents put the same whether versions are rows or closes, as long as each open got what was closed
-sent_alike : (s : Setup) (past : History) (e : Entry) → IsSound s past → FitsPlace s WasClosed (mapped s past) e.message (place_of e.event)
-    → (effect_after s rows past e).sent ≡ (effect_after s (closes s) past e).sent
-sent_alike s past e sound now =
-    ap (λ x. (effect_of s rows x e).sent) (states_alike s past sound) ∙ ap (λ (x : Effect Row). x.sent) (entry_alike s (mapped s past) e now)
+  past_is_sound : (past : History) → IsServed s past → AreEvents header past → AreAmong (blocks header past) whole
+      → IsSound s past × IsState s Among (mapped s past)
+  past_is_sound [] served valid among = (tt, first_is)
+  past_is_sound (e ∷ past) served valid among =
+      let now = blocks_at header.f e.message (place_of e.event) in
+      let sent = blocks_sent header.f (effect_after s rows past e).sent in
+      let less = among_back (now ++ sent) (blocks header past) whole among in
+      let before = past_is_sound past served.1 valid.2 less in
+      let place = placed past e.event e.message served.1 (all_made past less) valid.0 valid.1 served.0 in
+      let sound = place_fits s Among (gives_back header whole few apart) (mapped s past) before.1 e.message (place_of e.event) place in
+      let put = sent_is (effect_after s rows past e).sent (among_back now sent whole (among_front (now ++ sent) (blocks header past) whole among)) in
+      let kept = place_keeps s Among (mapped s past) before.1 (given_of (mapped s past).clock e) e.message (place_of e.event) place
+      (subst (Each (IsSent s Among)) (sent_alike s past e before.0 sound) put) in
+      ((sound, before.0), kept)
 
 pub sound_without_clash : (header : Header) (past : History) → IsHeader header → IsServed (under header) past → AreEvents header past → NoClash header past
     → IsSound (under header) past
 sound_without_clash header past ok served valid apart =
-    (past_is_sound header (blocks header past) (sent_alike (under header)) ok.f.1 apart past served valid (λ block there. there)).0
+    (past_is_sound header (blocks header past) ok.f.1 apart past served valid (λ block there. there)).0

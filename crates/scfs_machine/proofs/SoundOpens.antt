@@ -66,20 +66,17 @@ module _ (s : Setup) (Among : (c : ℕ) → (bytes : List ℕ) → Type 0) (a : 
     pub turn_keeps : (o : Opening Version) → IsOpening s Among o → Is (open_turns s (closes s) a agent o)
     turn_keeps o h = reads_keep (record o { reading = record o.reading { turns = o.reading.turns + 1 } }) (read_turn o.reading) h
 
-  -- where a piece that passes for a cloud is of that cloud
-  module _ (of_cloud : (c : ℕ) (root : Digest) (bytes : List ℕ) (piece : KeptPiece) → c < clouds_of s
-      → s.format.check s.header.f c root bytes ≡ Some piece → piece.cloud ≡ c) where
-    -- a cloud's answer
-    pub hears_keep : (agent : Agent Version) (o : Opening Version) (c : ℕ) (request : RequestNo) (answer : CloudAnswer) → IsAgent s Among agent
-        → IsOpening s Among o → IsHeard s Among c answer → Is (open_hears s (closes s) a agent o c request answer)
-    hears_keep agent o c request answer is h heard = by (is_awaited o.reading c request) refl
-      where
-        piece : Option KeptPiece
-        piece = piece_in s o.reading c answer
+  -- a cloud's answer
+  pub hears_keep : (agent : Agent Version) (o : Opening Version) (c : ℕ) (request : RequestNo) (answer : CloudAnswer) → IsAgent s Among agent
+      → IsOpening s Among o → IsHeard s Among c answer → Is (open_hears s (closes s) a agent o c request answer)
+  hears_keep agent o c request answer is h heard = by (is_awaited o.reading c request) refl
+    where
+      piece : Option KeptPiece
+      piece = piece_in s o.reading c answer
 
-        by : (counts : Bool) → is_awaited o.reading c request ≡ counts
-            → Is (if counts then takes s (closes s) a agent o c piece else reads s (closes s) a agent o Goes_on)
-        by true counts =
-            reads_keep (tallied agent c (is_some piece)) is (record o { reading = with_piece o.reading piece }) (read_on s o.reading piece)
-            (record { version = h.version; rooted = h.rooted; good = heard_good s Among of_cloud o.reading c request answer h.good heard counts })
-        by false counts = reads_keep agent is o Goes_on h
+      by : (counts : Bool) → is_awaited o.reading c request ≡ counts
+          → Is (if counts then takes s (closes s) a agent o c piece else reads s (closes s) a agent o Goes_on)
+      by true counts =
+          reads_keep (tallied agent c (is_some piece)) is (record o { reading = with_piece o.reading piece }) (read_on s o.reading piece)
+          (record { version = h.version; rooted = h.rooted; good = heard_good s Among o.reading c request answer h.good heard counts })
+      by false counts = reads_keep agent is o Goes_on h

@@ -14,7 +14,7 @@ use Rattle.scfs_machine.specs.Format.{Setup, clouds_of}
 use Rattle.scfs_machine.specs.Asked.{is_answer_to}
 use Rattle.scfs_machine.specs.Reading.{Reading, if_size, piece_in, is_good, is_awaited}
 use Rattle.scfs_machine.proofs.SoundLists.{each_append}
-use Rattle.scfs_machine.proofs.SoundKept.{IsGood, AreGood, IsHeard}
+use Rattle.scfs_machine.proofs.SoundKept.{IsGood, IsFrom, AreGood, IsHeard}
 
 sized_by : (b : Bool) (p piece : KeptPiece) → (if b then Some p else None) ≡ Some piece → Some p ≡ Some piece
 sized_by true p piece h = h
@@ -54,50 +54,28 @@ module _ (s : Setup) (Among : (c : ℕ) → (bytes : List ℕ) → Type 0) where
   pub none_good : (root : Digest) → AreGood s Among root []
   none_good root = record { each = tt; different = λ i j d less inside. absurd (omega arith) }
 
-  -- a good piece of this cloud
-  record IsFrom (root : Digest) (c : ℕ) (piece : KeptPiece) : Type 0 where
-    cloud : piece.cloud ≡ c
-    good : IsGood s Among root piece
+  heard_from : (r : Reading) (c : ℕ) (answer : CloudAnswer) (piece : KeptPiece) → IsHeard s Among c answer → piece_in s r c answer ≡ Some piece
+      → IsFrom s Among r.root c piece
+  heard_from r c (answers.Bytes bytes) piece h is = h r.root piece (sized r.size (s.format.check s.header.f c r.root bytes) piece is)
+  heard_from r c other piece h is = not_some piece is
 
-  -- a piece that passes for a cloud is of that cloud
-  module _ (of_cloud : (c : ℕ) (root : Digest) (bytes : List ℕ) (piece : KeptPiece) → c < clouds_of s
-      → s.format.check s.header.f c root bytes ≡ Some piece → piece.cloud ≡ c) where
-    heard_from : (r : Reading) (c : ℕ) (answer : CloudAnswer) (piece : KeptPiece) → IsHeard s Among c answer → piece_in s r c answer ≡ Some piece
-        → IsFrom r.root c piece
-    heard_from r c answers.Ack piece h is = not_some piece is
-    heard_from r c answers.Absent piece h is = not_some piece is
-    heard_from r c (answers.Bytes bytes) piece h is =
-        let passes = sized r.size (s.format.check s.header.f c r.root bytes) piece is in
-        let own = of_cloud c r.root bytes piece h.0 passes in
-        record {
-          cloud = own;
-          good = record {
-            bytes = bytes;
-            below = subst (λ k. k < clouds_of s) (sym own) h.0;
-            passes = subst (λ k. s.format.check s.header.f k r.root bytes ≡ Some piece) (sym own) passes;
-            among = subst (λ k. Among k bytes) (sym own) h.1;
-          };
-        }
-    heard_from r c (answers.Names names) piece h is = not_some piece is
-    heard_from r c answers.Fail piece h is = not_some piece is
+  pushed : (root : Digest) (pieces : List KeptPiece) (c : ℕ) (piece : KeptPiece) → AreGood s Among root pieces
+      → All (λ a. a ≢ c) (map (λ (p : KeptPiece). p.cloud) pieces) → IsFrom s Among root c piece → AreGood s Among root (pieces ++ piece ∷ [])
+  pushed root pieces c piece h apart from =
+      let cloud : KeptPiece → ℕ = λ p. p.cloud in
+      let new : All (λ a. a ≢ piece.cloud) (map cloud pieces) = subst (λ k. All (λ a. a ≢ k) (map cloud pieces)) (sym from.cloud) apart in
+      record {
+        each = each_append (IsGood s Among root) pieces (piece ∷ []) h.each (from.good, tt);
+        different = subst (AllPairs (λ a b. a ≢ b)) (sym (map-append cloud pieces (piece ∷ []))) (all_pairs_push (λ a b. a ≢ b) (map cloud pieces) piece.cloud h.different new);
+      }
 
-    pushed : (root : Digest) (pieces : List KeptPiece) (c : ℕ) (piece : KeptPiece) → AreGood s Among root pieces
-        → All (λ a. a ≢ c) (map (λ (p : KeptPiece). p.cloud) pieces) → IsFrom root c piece → AreGood s Among root (pieces ++ piece ∷ [])
-    pushed root pieces c piece h apart from =
-        let cloud : KeptPiece → ℕ = λ p. p.cloud in
-        let new : All (λ a. a ≢ piece.cloud) (map cloud pieces) = subst (λ k. All (λ a. a ≢ k) (map cloud pieces)) (sym from.cloud) apart in
-        record {
-          each = each_append (IsGood s Among root) pieces (piece ∷ []) h.each (from.good, tt);
-          different = subst (AllPairs (λ a b. a ≢ b)) (sym (map-append cloud pieces (piece ∷ []))) (all_pairs_push (λ a b. a ≢ b) (map cloud pieces) piece.cloud h.different new);
-        }
+  with_heard : (r : Reading) (c : ℕ) (there : Option KeptPiece) → AreGood s Among r.root r.pieces → is_good r c ≡ false
+      → ((piece : KeptPiece) → there ≡ Some piece → IsFrom s Among r.root c piece) → AreGood s Among r.root (r.pieces ++ option_to_list there)
+  with_heard r c None h new from = subst (AreGood s Among r.root) (sym (append-nil r.pieces)) h
+  with_heard r c (Some piece) h new from = pushed r.root r.pieces c piece h (others c r.pieces new) (from piece refl)
 
-    with_heard : (r : Reading) (c : ℕ) (there : Option KeptPiece) → AreGood s Among r.root r.pieces → is_good r c ≡ false
-        → ((piece : KeptPiece) → there ≡ Some piece → IsFrom r.root c piece) → AreGood s Among r.root (r.pieces ++ option_to_list there)
-    with_heard r c None h new from = subst (AreGood s Among r.root) (sym (append-nil r.pieces)) h
-    with_heard r c (Some piece) h new from = pushed r.root r.pieces c piece h (others c r.pieces new) (from piece refl)
-
-    -- after an answer that counts
-    pub heard_good : (r : Reading) (c : ℕ) (request : RequestNo) (answer : CloudAnswer) → AreGood s Among r.root r.pieces → IsHeard s Among c answer
-        → is_awaited r c request ≡ true → AreGood s Among r.root (r.pieces ++ option_to_list (piece_in s r c answer))
-    heard_good r c request answer h heard counts =
-        with_heard r c (piece_in s r c answer) h (both (is_answer_to r.gets c request) (is_good r c) counts) (λ piece. heard_from r c answer piece heard)
+  -- after an answer that counts
+  pub heard_good : (r : Reading) (c : ℕ) (request : RequestNo) (answer : CloudAnswer) → AreGood s Among r.root r.pieces → IsHeard s Among c answer
+      → is_awaited r c request ≡ true → AreGood s Among r.root (r.pieces ++ option_to_list (piece_in s r c answer))
+  heard_good r c request answer h heard counts =
+      with_heard r c (piece_in s r c answer) h (both (is_answer_to r.gets c request) (is_good r c) counts) (λ piece. heard_from r c answer piece heard)

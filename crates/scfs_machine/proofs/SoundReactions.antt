@@ -88,9 +88,7 @@ module _ (s : Setup) (Among : (c : ℕ) → (bytes : List ℕ) → Type 0) (a : 
   next_keeps agent [] is k sent = (is, tt)
   next_keeps agent (x ∷ rest) is k sent = begun_keeps agent rest x x.upload is k.0.0 k.1 sent
 
-  -- where a piece that passes for a cloud is of that cloud
-  module _ (of_cloud : (c : ℕ) (root : Digest) (bytes : List ℕ) (piece : KeptPiece) → c < clouds_of s
-      → s.format.check s.header.f c root bytes ≡ Some piece → piece.cloud ≡ c) (agent : Agent Version) (is : IsAgent s Among agent) (given : Given) where
+  module _ (agent : Agent Version) (is : IsAgent s Among agent) (given : Given) where
     responded_keeps : (input : Input Version) → IsInput s Among input → Is (responded s (closes s) a agent given input)
     responded_keeps (Calls call) k = call_keeps s Among a agent is call agent.waiting k
     responded_keeps (Tells request o) k =
@@ -98,7 +96,7 @@ module _ (s : Setup) (Among : (c : ℕ) → (bytes : List ℕ) → Type 0) (a : 
         (told_keeps (untold agent request) is given request o k) (is, tt)
     responded_keeps (Hears c request answer) k =
         work_keeps (λ next o. open_hears s (closes s) a next o c request answer) (λ next x u. upload_hears s a next x u c request answer)
-        (λ next o h w. hears_keep s Among a of_cloud next o c request answer h w k)
+        (λ next o h w. hears_keep s Among a next o c request answer h w k)
         (λ next x u h fits w. upload_hears_keep s Among a next x h fits u c request answer w) agent is
     responded_keeps Turns k =
         work_keeps (open_turns s (closes s) a) (upload_turns s a) (λ next o h w. turn_keeps s Among a next h o w)

@@ -18,14 +18,13 @@ use Rattle.scfs_machine.proofs.SoundLists.{Any, each_get}
 use Rattle.scfs_machine.proofs.SoundKept.{IsVersion, AreGood, IsOpening, IsWaiting, IsSeat, IsState, IsHeard, IsGiven, IsPlace}
 use Rattle.scfs_machine.proofs.SoundPieces.{heard_good}
 
--- a piece that passes for a cloud is of that cloud, and f + 1 good pieces of different clouds under a version's root give back its bytes
-pub record IsFaithful (s : Setup) (Among : (c : ℕ) → (bytes : List ℕ) → Type 0) : Type 0 where
-  pub of_cloud : (c : ℕ) (root : Digest) (bytes : List ℕ) (piece : KeptPiece) → c < clouds_of s
-      → s.format.check s.header.f c root bytes ≡ Some piece → piece.cloud ≡ c
-  pub gives_back : (v : Version) (pieces : List KeptPiece) → IsVersion s Among v → AreGood s Among (sealed s v.upload v.bytes).root pieces
-      → length pieces ≡ s.header.f + 1 → s.format.unseal s.header.f pieces ≡ v.bytes
+-- f + 1 good pieces of different clouds under a version's root give back its bytes
+abbrev pub GivesBack : (s : Setup) → (Among : (c : ℕ) → (bytes : List ℕ) → Type 0) → Type 0
+GivesBack s Among =
+    (v : Version) (pieces : List KeptPiece) → IsVersion s Among v → AreGood s Among (sealed s v.upload v.bytes).root pieces
+    → length pieces ≡ s.header.f + 1 → s.format.unseal s.header.f pieces ≡ v.bytes
 
-module _ (s : Setup) (Among : (c : ℕ) → (bytes : List ℕ) → Type 0) (faithful : IsFaithful s Among) where
+module _ (s : Setup) (Among : (c : ℕ) → (bytes : List ℕ) → Type 0) (gives_back : GivesBack s Among) where
   counted : (v : Version) (pieces : List KeptPiece) (bytes : List ℕ) (b : Bool) → (b ≡ true → bytes ≡ v.bytes)
       → FitsRead s WasClosed v (if b then Has bytes else Goes_on)
   counted v pieces bytes true same = same refl
@@ -37,7 +36,7 @@ module _ (s : Setup) (Among : (c : ℕ) → (bytes : List ℕ) → Type 0) (fait
   read_fits o (Some piece) h good =
       let pieces = o.reading.pieces ++ piece ∷ [] in
       counted o.version o.reading.pieces (s.format.unseal s.header.f pieces) (length o.reading.pieces == s.header.f) (λ enough.
-      faithful.gives_back o.version pieces h.version (subst (λ root. AreGood s Among root pieces) h.rooted good)
+      gives_back o.version pieces h.version (subst (λ root. AreGood s Among root pieces) h.rooted good)
       (omega (arith, length-append o.reading.pieces (piece ∷ []), eqb-true (length o.reading.pieces) s.header.f enough)))
 
   heard_fits : (c : ℕ) (request : RequestNo) (answer : CloudAnswer) (waiting : Option (Waiting Version)) → IsHeard s Among c answer
@@ -45,7 +44,7 @@ module _ (s : Setup) (Among : (c : ℕ) → (bytes : List ℕ) → Type 0) (fait
   heard_fits c request answer None heard h = tt
   heard_fits c request answer (Some For_step) heard h = tt
   heard_fits c request answer (Some (For_clouds o)) heard h =
-      λ counts. read_fits o (piece_in s o.reading c answer) h (heard_good s Among faithful.of_cloud o.reading c request answer h.good heard counts)
+      λ counts. read_fits o (piece_in s o.reading c answer) h (heard_good s Among o.reading c request answer h.good heard counts)
   heard_fits c request answer (Some For_close) heard h = tt
 
   at_fits : (c : ℕ) (request : RequestNo) (answer : CloudAnswer) (there : Option (Seat Version)) → IsHeard s Among c answer → Any (IsSeat s Among) there

@@ -87,14 +87,12 @@ module _ (s : Setup) (Among : (c : ℕ) → (bytes : List ℕ) → Type 0) where
     answers_keep c (Some (Of_request request)) sent = is
     answers_keep c (Some (Of_answer request answer)) sent = is
 
-    -- where a piece that passes for a cloud is of that cloud
-    module _ (of_cloud : (c : ℕ) (root : Digest) (bytes : List ℕ) (piece : KeptPiece) → c < clouds_of s
-        → s.format.check s.header.f c root bytes ≡ Some piece → piece.cloud ≡ c) (given : Given) where
+    module _ (given : Given) where
       comes_keep : (a : ℕ) (before : List Line) (input : Input Version) (seat : Seat Version) → IsInput s Among input → IsSeat s Among seat
           → Keeps (comes s (closes s) state a given before input seat)
       comes_keep a before input seat k h sent =
           let r = reacted s (closes s) a seat.agent given input in
-          let kept = reacted_keeps s Among a of_cloud seat.agent h.0 given input k sent in
+          let kept = reacted_keeps s Among a seat.agent h.0 given input k sent in
           (is.0, seat_keeps a _ (kept.0, each_append (IsRequest s Among) seat.asked r.steps h.1 kept.1, h.2))
 
       tells_keep : (a : ℕ) (seat : Seat Version) (replied : List (Reply Version)) → IsSeat s Among seat → Each (IsReply s Among) replied

@@ -9,6 +9,7 @@ use Rattle.std.proofs.lemmas.List.FromFn.{length-map-range_with_len, get_or-map-
 use Rattle.std.proofs.lemmas.Slice.Eq.{bytes_eq-Decides}
 use Rattle.sha2.specs.Sha256.{sha256}
 use Rattle.scfs_base.specs.declared.naming.Digest.{Digest}
+use Rattle.scfs_base.specs.declared.cloud.CloudAnswer.TheVariants as answers
 use Rattle.scfs_schedule.specs.declared.types.Header.{Header}
 use Rattle.scfs_digest.specs.Texts.{root_text, block_text, draw_text}
 use Rattle.scfs_shamir.specs.Recovery.{IsRow}
@@ -29,8 +30,8 @@ use Rattle.scfs_machine.specs.Format as format
 use Rattle.scfs_machine.specs.UnitFormat.{draw_for, accepted, under}
 use Rattle.scfs_machine.specs.Layers.{Version}
 use Rattle.scfs_machine.proofs.SoundLists.{all_of_each}
-use Rattle.scfs_machine.proofs.SoundKept.{IsVersion, IsGood}
-use Rattle.scfs_machine.proofs.SoundReads.{IsFaithful}
+use Rattle.scfs_machine.proofs.SoundKept.{IsVersion, IsGood, IsHeard}
+use Rattle.scfs_machine.proofs.SoundReads.{GivesBack}
 
 -- each of these blocks is among those
 abbrev pub AreAmong : List (List ℕ) → List (List ℕ) → Type 0
@@ -170,17 +171,28 @@ module _ (header : Header) (whole : List (List ℕ)) (few : header.f ≤ 3) (apa
         get_or-map-range_with_len made 0 (3 * f + 1) piece.cloud piece.cloud piece good.below (omega arith) ∙ sym own,
       )
 
-  pub unit_is_faithful : IsFaithful s Among
-  unit_is_faithful = record {
-    of_cloud = λ c root bytes piece below passes.
-        (IsPiece-checked header.f c root bytes piece below (accepted_is (checked header.f c root bytes) piece passes)).0;
-    gives_back = λ v pieces is good count.
-        let seed = sha256 (draw_text (seed_of s v.upload.agent) v.upload) in
-        let root = (format.sealed s v.upload v.bytes).root in
-        unseal-some header.f (drawn seed header.f) v.bytes pieces few (IsDraw-drawn seed header.f) is.fits.are_bytes (record {
-          as_many = count;
-          different = good.different;
-          among = All-weaker (IsGood s Among root) (Contains (unit_pieces header.f (drawn seed header.f) v.bytes)) (λ piece. own_piece v piece is) pieces
-              (all_of_each (IsGood s Among root) pieces good.each);
-        });
-  }
+  -- bytes of a cloud that are looked at have a good piece of it, where they pass
+  pub heard : (c : ℕ) (bytes : List ℕ) → c < clouds_of s → Among c bytes → IsHeard s Among c (answers.Bytes bytes)
+  heard c bytes below among root piece passes =
+      let cloud = (IsPiece-checked header.f c root bytes piece below (accepted_is (checked header.f c root bytes) piece passes)).0 in
+      let own = sym cloud in
+      record {
+        cloud = cloud;
+        good = record {
+          bytes = bytes;
+          below = subst (λ k. k < clouds_of s) own below;
+          passes = subst (λ k. s.format.check header.f k root bytes ≡ Some piece) own passes;
+          among = subst (λ k. Among k bytes) own among;
+        };
+      }
+
+  pub gives_back : GivesBack s Among
+  gives_back v pieces is good count =
+      let seed = sha256 (draw_text (seed_of s v.upload.agent) v.upload) in
+      let root = (format.sealed s v.upload v.bytes).root in
+      unseal-some header.f (drawn seed header.f) v.bytes pieces few (IsDraw-drawn seed header.f) is.fits.are_bytes (record {
+        as_many = count;
+        different = good.different;
+        among = All-weaker (IsGood s Among root) (Contains (unit_pieces header.f (drawn seed header.f) v.bytes)) (λ piece. own_piece v piece is) pieces
+            (all_of_each (IsGood s Among root) pieces good.each);
+      })
