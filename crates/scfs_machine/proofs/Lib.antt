@@ -7,14 +7,10 @@ mod Closes
 mod LocalCalls
 pub mod SoundLists
 pub mod SoundKept
-pub mod SoundContents
 pub mod SoundCalls
-pub mod SoundPieces
 pub mod SoundOpens
-pub mod SoundCloses
 pub mod SoundReactions
 pub mod SoundStates
-pub mod SoundReads
 pub mod SoundAnswers
 pub mod SoundUnit
 pub mod SoundLaw

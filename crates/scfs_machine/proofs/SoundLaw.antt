@@ -28,8 +28,7 @@ use Rattle.scfs_machine.specs.Laws.{WritesBytes, BringsBytes, AreEvents}
 use Rattle.scfs_machine.proofs.TwoLayers.{entry_alike, states_alike}
 use Rattle.scfs_machine.proofs.SoundLists.{Each, each_replicate}
 use Rattle.scfs_machine.proofs.SoundKept.{IsSession, IsWritten, IsSeat, IsState, IsHeard, IsGiven, IsPlace, IsAsked, IsSent}
-use Rattle.scfs_machine.proofs.SoundStates.{place_keeps}
-use Rattle.scfs_machine.proofs.SoundReads.{place_fits}
+use Rattle.scfs_machine.proofs.SoundStates.{place_keeps, place_fits}
 use Rattle.scfs_machine.proofs.SoundAnswers.{IsOf, IsMade, AreMade, given_made}
 use Rattle.scfs_machine.proofs.SoundUnit.{AreAmong, IsAmong, heard, gives_back}
 

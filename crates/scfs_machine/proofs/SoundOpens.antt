@@ -1,25 +1,94 @@
--- An open, from its sight to its session, keeps what holds of an agent's versions and sessions.
-use Rattle.std.proofs.Common.{◌≡◌, ℕ, ◌+◌, ◌<◌, List, refl, Option, Some, None, Bool, true, false}
-use Rattle.std.specs.Prelude.{◌==◌, is_some, if◌then◌else◌}
+-- An open, from its sight to its session, keeps what holds of an agent's versions and sessions: its pieces stay good ones of different clouds.
+use Rattle.std.proofs.Common.{◌≡◌, ◌≢◌, arith, ℕ, ◌<◌, List, [], ◌∷◌, ◌++◌, map, refl, sym, ◌∙◌, subst, Option, Some, None, Bool, true, false, not, ◌&&◌, ◌||◌, true≢false, append-nil, eq-eqb, ◌+◌}
+use Rattle.std.specs.Prelude.{◌==◌, if◌then◌else◌, option_to_list, is_some}
+use Rattle.std.specs.List.{All, AllPairs, list_any}
+use Rattle.std.proofs.lemmas.List.{map-append}
+use Rattle.std.proofs.lemmas.List.Elements.{All-nil, All-cons}
+use Rattle.std.proofs.lemmas.List.Quantifiers.{all_pairs_push}
 use Rattle.scfs_base.specs.declared.naming.Digest.{Digest}
 use Rattle.scfs_base.specs.declared.naming.RequestNo.{RequestNo}
 use Rattle.scfs_base.specs.declared.cloud.CloudAnswer.{CloudAnswer}
+use Rattle.scfs_base.specs.declared.cloud.CloudAnswer.TheVariants as answers
 use Rattle.scfs_unit.specs.declared.pieces.KeptPiece.{KeptPiece}
+use Rattle.scfs_machine.specs.Format.{Setup, clouds_of}
+use Rattle.scfs_machine.specs.Asked.{is_answer_to}
+use Rattle.scfs_machine.specs.Reading.{Reading, if_size, piece_in, is_good, is_awaited, with_piece, read_on, read_turn}
+use Rattle.scfs_machine.proofs.SoundLists.{each_append, Any, either}
+use Rattle.scfs_machine.proofs.SoundKept.{IsGood, IsFrom, AreGood, IsHeard, IsSession, IsVersion, IsOpening, IsAgent, IsReaction}
 use Rattle.scfs_session.specs.declared.sessions.Session.{Session}
 use Rattle.scfs_schedule.specs.declared.types.Src.{Src}
 use Rattle.scfs_schedule.specs.declared.types.Src.TheVariants as sources
-use Rattle.scfs_machine.specs.Format.{Setup, clouds_of}
 use Rattle.scfs_machine.specs.Given.{Given}
 use Rattle.scfs_machine.specs.SessionSteps.{Sight}
 use Rattle.scfs_machine.specs.Next.{Next, Goes_on, Asks, Has, Gives_up}
-use Rattle.scfs_machine.specs.Reading.{piece_in, is_awaited, with_piece, read_on, read_turn}
 use Rattle.scfs_machine.specs.Agents.{Opening, Agent, Reaction}
 use Rattle.scfs_machine.specs.Opens.{Found, As_empty, On_clouds, found_version, found, opened, asks_gets, sighted, saw, gives_up, reads, tallied, takes, open_hears, open_turns}
 use Rattle.scfs_machine.specs.Layers.{Version, closes}
-use Rattle.scfs_machine.proofs.SoundLists.{Any, either}
-use Rattle.scfs_machine.proofs.SoundKept.{IsSession, IsVersion, IsOpening, IsHeard, IsAgent, IsReaction}
-use Rattle.scfs_machine.proofs.SoundContents.{no_contents, opened_fits}
-use Rattle.scfs_machine.proofs.SoundPieces.{none_good, heard_good}
+use Rattle.scfs_machine.proofs.SoundCalls.{no_contents, opened_fits}
+
+sized_by : (b : Bool) (p piece : KeptPiece) → (if b then Some p else None) ≡ Some piece → Some p ≡ Some piece
+sized_by true p piece h = h
+sized_by false p piece h = cc
+
+sized : (size : ℕ) (o : Option KeptPiece) (piece : KeptPiece) → if_size size o ≡ Some piece → o ≡ Some piece
+sized size None piece h = h
+sized size (Some p) piece h = sized_by (p.length == size) p piece h
+
+not_some : {A : Type 0} (piece : KeptPiece) → None ≡ Some piece → A
+not_some piece h = absurd (none h)
+  where
+    none : None ≡ Some piece → ⊥
+    none e = cc
+
+or_false : (a b : Bool) → (a || b) ≡ false → (a ≡ false) × (b ≡ false)
+or_false true b h = absurd (true≢false h)
+or_false false b h = (refl, h)
+
+apart_from : (a c : ℕ) → (a == c) ≡ false → a ≢ c
+apart_from a c h same = true≢false (sym (eq-eqb a c same) ∙ h)
+
+-- pieces of other clouds
+others : (c : ℕ) (pieces : List KeptPiece) → list_any (λ (p : KeptPiece). p.cloud == c) pieces ≡ false
+    → All (λ a. a ≢ c) (map (λ (p : KeptPiece). p.cloud) pieces)
+others c [] h = All-nil (λ a. a ≢ c)
+others c (p ∷ ps) h =
+    let parts = or_false (p.cloud == c) (list_any (λ (q : KeptPiece). q.cloud == c) ps) h in
+    All-cons (λ a. a ≢ c) p.cloud (map (λ (q : KeptPiece). q.cloud) ps) (apart_from p.cloud c parts.0) (others c ps parts.1)
+
+both : (a b : Bool) → (a && not b) ≡ true → b ≡ false
+both true true h = absurd (true≢false (sym h))
+both true false h = refl
+both false b h = absurd (true≢false (sym h))
+
+module _ (s : Setup) (Among : (c : ℕ) → (bytes : List ℕ) → Type 0) where
+  pub none_good : (root : Digest) → AreGood s Among root []
+  none_good root = record { each = tt; different = λ i j d less inside. absurd (omega arith) }
+
+  heard_from : (r : Reading) (c : ℕ) (answer : CloudAnswer) (piece : KeptPiece) → IsHeard s Among c answer → piece_in s r c answer ≡ Some piece
+      → IsFrom s Among r.root c piece
+  heard_from r c (answers.Bytes bytes) piece h is = h r.root piece (sized r.size (s.format.check s.header.f c r.root bytes) piece is)
+  heard_from r c other piece h is = not_some piece is
+
+  pushed : (root : Digest) (pieces : List KeptPiece) (c : ℕ) (piece : KeptPiece) → AreGood s Among root pieces
+      → All (λ a. a ≢ c) (map (λ (p : KeptPiece). p.cloud) pieces) → IsFrom s Among root c piece → AreGood s Among root (pieces ++ piece ∷ [])
+  pushed root pieces c piece h apart from =
+      let cloud : KeptPiece → ℕ = λ p. p.cloud in
+      let new : All (λ a. a ≢ piece.cloud) (map cloud pieces) = subst (λ k. All (λ a. a ≢ k) (map cloud pieces)) (sym from.cloud) apart in
+      record {
+        each = each_append (IsGood s Among root) pieces (piece ∷ []) h.each (from.good, tt);
+        different = subst (AllPairs (λ a b. a ≢ b)) (sym (map-append cloud pieces (piece ∷ []))) (all_pairs_push (λ a b. a ≢ b) (map cloud pieces) piece.cloud h.different new);
+      }
+
+  with_heard : (r : Reading) (c : ℕ) (there : Option KeptPiece) → AreGood s Among r.root r.pieces → is_good r c ≡ false
+      → ((piece : KeptPiece) → there ≡ Some piece → IsFrom s Among r.root c piece) → AreGood s Among r.root (r.pieces ++ option_to_list there)
+  with_heard r c None h new from = subst (AreGood s Among r.root) (sym (append-nil r.pieces)) h
+  with_heard r c (Some piece) h new from = pushed r.root r.pieces c piece h (others c r.pieces new) (from piece refl)
+
+  -- after an answer that counts
+  pub heard_good : (r : Reading) (c : ℕ) (request : RequestNo) (answer : CloudAnswer) → AreGood s Among r.root r.pieces → IsHeard s Among c answer
+      → is_awaited r c request ≡ true → AreGood s Among r.root (r.pieces ++ option_to_list (piece_in s r c answer))
+  heard_good r c request answer h heard counts =
+      with_heard r c (piece_in s r c answer) h (both (is_answer_to r.gets c request) (is_good r c) counts) (λ piece. heard_from r c answer piece heard)
 
 module _ (s : Setup) (Among : (c : ℕ) → (bytes : List ℕ) → Type 0) (a : ℕ) where
   abbrev Is : Reaction Version → Type 0

@@ -1,30 +1,74 @@
--- What an agent does on an input keeps what holds of its versions and sessions.
-use Rattle.std.proofs.Common.{◌≡◌, ℕ, ◌<◌, List, [], ◌∷◌, Option, Some, None, true, false, Ok, Err}
-use Rattle.scfs_base.specs.declared.naming.Digest.{Digest}
+-- What an agent does on an input keeps what holds of its versions and sessions: what it seals is put.
+use Rattle.std.proofs.Common.{ℕ, zero, suc, ◌+◌, ◌<◌, List, map, subst, arith, eq-or-lt_of_le, inl, inr, ◌≤◌, ◌≡◌, [], ◌∷◌, Option, Some, None, true, false, Ok, Err}
+use Rattle.std.specs.List.{range_with_len}
 use Rattle.scfs_base.specs.declared.naming.RequestNo.{RequestNo}
+use Rattle.scfs_base.specs.declared.cloud.CloudAnswer.{CloudAnswer}
+use Rattle.scfs_base.specs.declared.cloud.CloudRequest.TheVariants as requests
+use Rattle.scfs_machine.specs.Lists.{below}
+use Rattle.scfs_machine.specs.Names.{upload_no, upload_name}
+use Rattle.scfs_machine.specs.Format.{Setup, clouds_of, sealed, object_at}
+use Rattle.scfs_machine.specs.Asked.{Asked, asked_of}
+use Rattle.scfs_machine.specs.Next.{Next, Goes_on, Asks, Has, Gives_up}
+use Rattle.scfs_machine.specs.Storing.{is_new_ack, with_ack, store_on, store_turn}
+use Rattle.scfs_machine.specs.Agents.{Upload, Closed, Agent, Reaction, Opening, Waiting, For_step, For_clouds, For_close, Input, Calls, Tells, Hears, Turns, silent}
+use Rattle.scfs_machine.specs.Closes.{with_storing, stores, upload_hears, upload_turns, begins}
+use Rattle.scfs_machine.specs.Layers.{Version, closes}
+use Rattle.scfs_machine.proofs.SoundLists.{Each, either, Any, each_append, each_behind}
+use Rattle.scfs_machine.proofs.SoundKept.{IsSession, IsUpload, IsAgent, IsReaction, IsSent, IsOpening, IsWaiting, IsClosed, IsRequest, IsSessionOutcome, IsOk, IsOutcome, IsInput}
+use Rattle.scfs_base.specs.declared.naming.Digest.{Digest}
 use Rattle.scfs_unit.specs.declared.pieces.KeptPiece.{KeptPiece}
-use Rattle.scfs_machine.specs.Format.{Setup, clouds_of}
 use Rattle.scfs_machine.specs.Given.{Given}
 use Rattle.scfs_machine.specs.Walks.{OrRefusal}
 use Rattle.scfs_machine.specs.SessionSteps.{Session_step, Open_read, Open_write, Commit, Session_outcome, Sees, Locks, Completes}
 use Rattle.scfs_machine.specs.Steps.{Outcome, Of_names, Of_locks, Of_sessions}
-use Rattle.scfs_machine.specs.Agents.{Opening, Waiting, For_step, For_clouds, For_close, Upload, Closed, Agent, Input, Calls, Tells, Hears, Turns, Reaction, silent}
 use Rattle.scfs_machine.specs.Told.{is_pending, untold, told_open, told_commit, told_sessions, told}
 use Rattle.scfs_machine.specs.Opens.{open_hears, open_turns}
-use Rattle.scfs_machine.specs.Closes.{upload_hears, upload_turns}
 use Rattle.scfs_machine.specs.Reactions.{idle, to_open, to_closed, to_upload, to_work, responded, begun, next_begun, reacted}
-use Rattle.scfs_machine.specs.Layers.{Version, closes}
-use Rattle.scfs_machine.proofs.SoundLists.{Each, Any, each_append, each_behind, either}
-use Rattle.scfs_machine.proofs.SoundKept.{IsSession, IsOpening, IsWaiting, IsUpload, IsClosed, IsRequest, IsSessionOutcome, IsOk, IsOutcome, IsAgent, IsReaction, IsInput, IsSent}
 use Rattle.scfs_machine.proofs.SoundCalls.{call_keeps}
 use Rattle.scfs_machine.proofs.SoundOpens.{saw_keeps, turn_keeps, hears_keep}
-use Rattle.scfs_machine.proofs.SoundCloses.{upload_hears_keep, upload_turns_keep, begins_keep}
 
 module _ (s : Setup) (Among : (c : ℕ) → (bytes : List ℕ) → Type 0) (a : ℕ) where
   abbrev Is : Reaction Version → Type 0
   Is r = IsReaction s Among r
 
-  -- what it is told
+  -- of Puts of an object of each cloud from one on, each is among those looked at, where all that is sent is
+  each_put : (name : List ℕ) (object : ℕ → List ℕ) (incarnation drawn from n : ℕ)
+      → Each (IsSent s Among) (map (λ (x : Asked). record { number = x.request; cloud = x.cloud; body = requests.Put name (object x.cloud) })
+      (asked_of a incarnation drawn (range_with_len from n)))
+      → (c : ℕ) → from ≤ c → c < from + n → Among c (object c)
+  each_put name object incarnation drawn from zero h c above below = absurd (omega arith)
+  each_put name object incarnation drawn from (suc n) h c above below =
+      elim (eq-or-lt_of_le above) [
+        | inl same ↦ subst (λ k. Among k (object k)) same h.0
+        | inr less ↦ each_put name object incarnation (drawn + 1) (from + 1) n h.1 c (omega arith) (omega arith)
+      ]
+
+  module _ (agent : Agent Version) (x : Closed Version) (is : IsAgent s Among agent) (fits : IsSession x.session) where
+    stores_keep : (u : Upload Version) (next : Next (Unit {0})) → IsUpload s Among u → Is (stores s a agent x u next)
+    stores_keep u Goes_on h = ((is.0, is.1, ((fits, h), is.2)), tt)
+    stores_keep u (Asks clouds) h = ((is.0, is.1, ((fits, h), is.2)), tt)
+    stores_keep u (Has enough) h = ((is.0, is.1, ((fits, h), is.2)), (h, tt))
+    stores_keep u (Gives_up acks) h = ((tt, is.1, is.2), (tt, tt))
+
+    pub upload_hears_keep : (u : Upload Version) (c : ℕ) (request : RequestNo) (answer : CloudAnswer) → IsUpload s Among u
+        → Is (upload_hears s a agent x u c request answer)
+    upload_hears_keep u c request answer h =
+        either Is (is_new_ack u.storing c request answer) (stores s a agent x (with_storing u (with_ack u.storing c)) (store_on s u.storing)) (stores s a agent x u Goes_on)
+        (stores_keep (with_storing u (with_ack u.storing c)) (store_on s u.storing) h) (stores_keep u Goes_on h)
+
+    pub upload_turns_keep : (u : Upload Version) → IsUpload s Among u → Is (upload_turns s a agent x u)
+    upload_turns_keep u h = stores_keep (with_storing u (record u.storing { turns = u.storing.turns + 1 })) (store_turn s u.storing) h
+
+    -- where its objects are among those looked at
+    pub begins_keep : Each (IsSent s Among) (begins s (closes s) a agent x).sent → Is (begins s (closes s) a agent x)
+    begins_keep sent =
+        let no = upload_no a agent.incarnation (agent.uploads + 1) in
+        let unit = sealed s no x.session.contents in
+        let objects : (c : ℕ) → c < clouds_of s → Among c (object_at unit c) =
+        λ c less. each_put (upload_name no) (object_at unit) agent.incarnation agent.requests 0 (clouds_of s) sent c (omega arith) (omega arith) in
+        ((is.0, is.1, ((fits, record { fits = fits; objects = objects }), is.2)), tt)
+
+  -- what the agent is told
   module _ (agent : Agent Version) (is : IsAgent s Among agent) (given : Given) (request : RequestNo) where
     open_keeps : (h : ℕ) (r : OrRefusal (Session_outcome Version)) → IsOk s Among (IsSessionOutcome s Among) r
         → Is (told_open s (closes s) a agent given request h r)
@@ -80,7 +124,7 @@ module _ (s : Setup) (Among : (c : ℕ) → (bytes : List ℕ) → Type 0) (a : 
 
   begun_keeps : (agent : Agent Version) (rest : List (Closed Version)) (x : Closed Version) (u : Option (Upload Version)) → IsAgent s Among agent → IsSession x.session
       → Each (IsClosed s Among) rest → Each (IsSent s Among) (begun s (closes s) a agent rest x u).sent → Is (begun s (closes s) a agent rest x u)
-  begun_keeps agent rest x None is fits k sent = begins_keep s Among a (record agent { closed = rest }) x (is.0, is.1, k) fits sent
+  begun_keeps agent rest x None is fits k sent = begins_keep (record agent { closed = rest }) x (is.0, is.1, k) fits sent
   begun_keeps agent rest x (Some u) is fits k sent = (is, tt)
 
   next_keeps : (agent : Agent Version) (waiting : List (Closed Version)) → IsAgent s Among agent → Each (IsClosed s Among) waiting
@@ -97,10 +141,10 @@ module _ (s : Setup) (Among : (c : ℕ) → (bytes : List ℕ) → Type 0) (a : 
     responded_keeps (Hears c request answer) k =
         work_keeps (λ next o. open_hears s (closes s) a next o c request answer) (λ next x u. upload_hears s a next x u c request answer)
         (λ next o h w. hears_keep s Among a next o c request answer h w k)
-        (λ next x u h fits w. upload_hears_keep s Among a next x h fits u c request answer w) agent is
+        (λ next x u h fits w. upload_hears_keep next x h fits u c request answer w) agent is
     responded_keeps Turns k =
         work_keeps (open_turns s (closes s) a) (upload_turns s a) (λ next o h w. turn_keeps s Among a next h o w)
-        (λ next x u h fits w. upload_turns_keep s Among a next x h fits u w) agent is
+        (λ next x u h fits w. upload_turns_keep next x h fits u w) agent is
 
     -- where the objects that it puts are among those looked at
     pub reacted_keeps : (input : Input Version) → IsInput s Among input → Each (IsSent s Among) (reacted s (closes s) a agent given input).sent

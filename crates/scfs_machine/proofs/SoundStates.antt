@@ -1,26 +1,31 @@
--- An event keeps what holds of the file map's versions, pieces and contents, and what it gives an open is what was closed.
-use Rattle.std.proofs.Common.{◌≡◌, ℕ, ◌+◌, ◌<◌, List, [], ◌∷◌, Option, Some, None, Ok, Err, slice_get, slice_set}
-use Rattle.std.specs.Prelude.{◌-◌}
+-- An event keeps what holds of the file map, and what it gives an open is what was closed.
+use Rattle.std.proofs.Common.{◌≡◌, ℕ, ◌+◌, ◌<◌, List, [], ◌∷◌, Option, Some, None, Ok, Err, slice_get, slice_set, ◌++◌, length, refl, subst, arith, Bool, true, false, length-append, eqb-true}
+use Rattle.std.specs.Prelude.{◌-◌, ◌==◌, if◌then◌else◌, option_to_list}
 use Rattle.scfs_base.specs.declared.naming.Digest.{Digest}
 use Rattle.scfs_base.specs.declared.naming.RequestNo.{RequestNo}
 use Rattle.scfs_schedule.specs.declared.types.Line.{Line}
 use Rattle.scfs_schedule.specs.declared.types.Line.TheVariants as lines
 use Rattle.scfs_unit.specs.declared.pieces.KeptPiece.{KeptPiece}
-use Rattle.scfs_machine.specs.Format.{Setup, clouds_of}
+use Rattle.scfs_machine.specs.Format.{Setup, clouds_of, sealed}
 use Rattle.scfs_machine.specs.History.{Message, Of_request, Of_answer}
 use Rattle.scfs_machine.specs.Given.{Given}
 use Rattle.scfs_machine.specs.Tree.{Tree, live, session_lock, node_at}
 use Rattle.scfs_machine.specs.Walks.{OrRefusal, on_ok, file_at, free_file_at}
 use Rattle.scfs_machine.specs.SessionSteps.{Session_step, Open_read, Open_write, Commit, Session_outcome, Sees, Locks, Completes, session_outcome, session_after, still_held}
 use Rattle.scfs_machine.specs.Steps.{Step, On_names, On_locks, On_sessions, after_ok, served}
-use Rattle.scfs_machine.specs.Agents.{Request, Input, Calls, Tells, Hears, Turns}
+use Rattle.scfs_machine.specs.Agents.{Request, Input, Calls, Tells, Hears, Turns, Opening, Waiting, For_step, For_clouds, For_close}
 use Rattle.scfs_machine.specs.Reactions.{reacted}
 use Rattle.scfs_machine.specs.Events.{At_agent, Call_comes, Turn_comes, At_space, Step_served, Step_postponed, Reply_told, Request_answered, Answer_given, Message_moved, Place, Agent_has, Space_has, Cloud_has, Nowhere}
 use Rattle.scfs_machine.specs.States.{Reply, Seat, State, Effect, sum_of, leaving, at_seat, postpones, moves, answers_by, comes, serves, tells, gives, at_agent, at_space, at_place}
 use Rattle.scfs_machine.specs.Layers.{Version, closes}
-use Rattle.scfs_machine.proofs.SoundLists.{Each, each_append, each_set, each_get, each_find, each_moved, on_there}
-use Rattle.scfs_machine.proofs.SoundKept.{IsVersion, IsStep, IsSessionStep, IsRequest, IsSessionOutcome, IsOk, IsOutcome, IsReply, IsSeat, IsState, IsInput, IsSent, IsBrought, IsGiven, IsPlace}
+use Rattle.scfs_machine.proofs.SoundLists.{Each, each_append, each_set, each_get, each_find, each_moved, on_there, Any}
+use Rattle.scfs_machine.proofs.SoundKept.{IsVersion, IsStep, IsSessionStep, IsRequest, IsSessionOutcome, IsOk, IsOutcome, IsReply, IsSeat, IsState, IsInput, IsSent, IsBrought, IsGiven, IsPlace, AreGood, IsOpening, IsWaiting, IsHeard}
 use Rattle.scfs_machine.proofs.SoundReactions.{reacted_keeps}
+use Rattle.scfs_base.specs.declared.cloud.CloudAnswer.{CloudAnswer}
+use Rattle.scfs_machine.specs.Next.{Goes_on, Has}
+use Rattle.scfs_machine.specs.Reading.{piece_in, read_on}
+use Rattle.scfs_machine.specs.Sound.{FitsRead, FitsHeard, FitsAt, FitsGiven, FitsPlace, WasClosed}
+use Rattle.scfs_machine.proofs.SoundOpens.{heard_good}
 
 module _ (s : Setup) (Among : (c : ℕ) → (bytes : List ℕ) → Type 0) where
   abbrev AreVersions : Tree Version → Type 0
@@ -123,3 +128,52 @@ module _ (s : Setup) (Among : (c : ℕ) → (bytes : List ℕ) → Type 0) where
       place_keeps m (Cloud_has c Answer_given) k = gives_keep c m k
       place_keeps m (Cloud_has c Message_moved) k = moves_keep m
       place_keeps m Nowhere k = λ sent. is
+
+-- f + 1 good pieces of different clouds under a version's root give back its bytes
+abbrev pub GivesBack : (s : Setup) → (Among : (c : ℕ) → (bytes : List ℕ) → Type 0) → Type 0
+GivesBack s Among =
+    (v : Version) (pieces : List KeptPiece) → IsVersion s Among v → AreGood s Among (sealed s v.upload v.bytes).root pieces
+    → length pieces ≡ s.header.f + 1 → s.format.unseal s.header.f pieces ≡ v.bytes
+
+module _ (s : Setup) (Among : (c : ℕ) → (bytes : List ℕ) → Type 0) (gives_back : GivesBack s Among) where
+  counted : (v : Version) (pieces : List KeptPiece) (bytes : List ℕ) (b : Bool) → (b ≡ true → bytes ≡ v.bytes)
+      → FitsRead s WasClosed v (if b then Has bytes else Goes_on)
+  counted v pieces bytes true same = same refl
+  counted v pieces bytes false same = tt
+
+  read_fits : (o : Opening Version) (there : Option KeptPiece) → IsOpening s Among o
+      → AreGood s Among o.reading.root (o.reading.pieces ++ option_to_list there) → FitsRead s WasClosed o.version (read_on s o.reading there)
+  read_fits o None h good = tt
+  read_fits o (Some piece) h good =
+      let pieces = o.reading.pieces ++ piece ∷ [] in
+      counted o.version o.reading.pieces (s.format.unseal s.header.f pieces) (length o.reading.pieces == s.header.f) (λ enough.
+      gives_back o.version pieces h.version (subst (λ root. AreGood s Among root pieces) h.rooted good)
+      (omega (arith, length-append o.reading.pieces (piece ∷ []), eqb-true (length o.reading.pieces) s.header.f enough)))
+
+  heard_fits : (c : ℕ) (request : RequestNo) (answer : CloudAnswer) (waiting : Option (Waiting Version)) → IsHeard s Among c answer
+      → IsWaiting s Among waiting → FitsHeard s WasClosed c request answer waiting
+  heard_fits c request answer None heard h = tt
+  heard_fits c request answer (Some For_step) heard h = tt
+  heard_fits c request answer (Some (For_clouds o)) heard h =
+      λ counts. read_fits o (piece_in s o.reading c answer) h (heard_good s Among o.reading c request answer h.good heard counts)
+  heard_fits c request answer (Some For_close) heard h = tt
+
+  at_fits : (c : ℕ) (request : RequestNo) (answer : CloudAnswer) (there : Option (Seat Version)) → IsHeard s Among c answer → Any (IsSeat s Among) there
+      → FitsAt s WasClosed c request answer there
+  at_fits c request answer None heard h = tt
+  at_fits c request answer (Some seat) heard h = heard_fits c request answer seat.agent.waiting heard h.0.0
+
+  module _ (state : State Version) (is : IsState s Among state) where
+    given_fits : (c : ℕ) (m : Option Message) → IsGiven s Among c m → FitsGiven s WasClosed state c m
+    given_fits c None k = tt
+    given_fits c (Some (Of_request request)) k = tt
+    given_fits c (Some (Of_answer request answer)) k =
+        at_fits c request answer (slice_get state.seats request.agent) k (each_get (IsSeat s Among) state.seats request.agent is.1)
+
+    pub place_fits : (m : Option Message) (place : Place) → IsPlace s Among m place → FitsPlace s WasClosed state m place
+    place_fits m (Agent_has a x) k = tt
+    place_fits m (Space_has a x) k = tt
+    place_fits m (Cloud_has c Request_answered) k = tt
+    place_fits m (Cloud_has c Answer_given) k = given_fits c m k
+    place_fits m (Cloud_has c Message_moved) k = tt
+    place_fits m Nowhere k = tt

@@ -31,7 +31,7 @@ use Rattle.scfs_machine.specs.UnitFormat.{draw_for, accepted, under}
 use Rattle.scfs_machine.specs.Layers.{Version}
 use Rattle.scfs_machine.proofs.SoundLists.{all_of_each}
 use Rattle.scfs_machine.proofs.SoundKept.{IsVersion, IsGood, IsHeard}
-use Rattle.scfs_machine.proofs.SoundReads.{GivesBack}
+use Rattle.scfs_machine.proofs.SoundStates.{GivesBack}
 
 -- each of these blocks is among those
 abbrev pub AreAmong : List (List ℕ) → List (List ℕ) → Type 0
