@@ -15,7 +15,7 @@ use Rattle.scfs_machine.specs.Events.{Place, Cloud_has, Request_answered, place_
 use Rattle.scfs_machine.specs.Layers.{rows}
 use Rattle.scfs_machine.specs.Runs.{effect_after}
 use Rattle.scfs_machine.specs.Clouds.{moved_by, asked_by, all_asked, net, did_message, reply_message, message_of, IsServed}
-use Rattle.scfs_machine.proofs.SoundLists.{Each, each_append}
+use Rattle.scfs_machine.proofs.SoundLists.{Each, each_append, each_moved}
 
 set_cases : {X : Type 0} (xs : List X) (n c : ℕ) (v d : X) → (get_or (set xs n v) c d ≡ get_or xs c d) ⊎ ((n ≡ c) × (get_or (set xs n v) c d ≡ v))
 set_cases [] n c v d = inl refl
@@ -70,16 +70,19 @@ module _ (P : (c : ℕ) → CloudAnswer → Type 0) where
         ]
 
     answer_kept : (c : ℕ) (how : Answering) (cloud : CloudState) (waiting : List Asked) → Each (IsReply c) cloud.replies
-        → IsOf c (did_message (answer_to how cloud.objects waiting)) → Each (IsReply c) (after_answer cloud waiting (answer_to how cloud.objects waiting)).replies
+        → IsOf c (did_message (answer_to how cloud.objects waiting))
+        → Each (IsReply c) (after_answer cloud waiting (answer_to how cloud.objects waiting)).replies
     answer_kept c how cloud [] k made = k
     answer_kept c how cloud (oldest ∷ waiting) k made =
         each_append (IsReply c) cloud.replies ((record { request = oldest.request; answer = how cloud.objects oldest.body }) ∷ []) k (made, tt)
 
-    made_kept : (c : ℕ) (how : Answering) (message : Option Message) → message ≡ did_message (net_did how net c) → IsOf c message → AreReplies (net_answered how net c)
+    made_kept : (c : ℕ) (how : Answering) (message : Option Message) → message ≡ did_message (net_did how net c) → IsOf c message
+        → AreReplies (net_answered how net c)
     made_kept c how message is made =
         kept_at c (answered how) (answer_kept c how (cloud_at net c) (cloud_at net c).requests (h c) (subst (IsOf c) is made))
 
-    moved_kept : (event : Event) (message : Option Message) → message ≡ message_of net event → IsMade message (place_of event) → AreReplies (moved_by event net)
+    moved_kept : (event : Event) (message : Option Message) → message ≡ message_of net event → IsMade message (place_of event)
+        → AreReplies (moved_by event net)
     moved_kept (events.Serve c) message is made = made_kept c serving message is made
     moved_kept (events.Hide c) message is made = made_kept c hiding message is made
     moved_kept (events.Fail c) message is made = made_kept c (always answers.Fail) message is made
@@ -89,8 +92,7 @@ module _ (P : (c : ℕ) → CloudAnswer → Type 0) where
     moved_kept (events.Drop c) message is made = kept_at c taken (each_drop (IsReply c) (cloud_at net c).replies (h c))
     moved_kept (events.Defer c) message is made = kept_at c deferred (h c)
     moved_kept (events.Swap c) message is made =
-        let replies = (cloud_at net c).replies in
-        kept_at c swapped (each_append (IsReply c) (drop 1 replies) (take 1 replies) (each_drop (IsReply c) replies (h c)) (each_take (IsReply c) replies (h c)))
+        kept_at c swapped (each_moved (IsReply c) (cloud_at net c).replies (h c))
     moved_kept (events.Again c) message is made = kept_at c repeated (h c)
     moved_kept (events.Twice c) message is made =
         let replies = (cloud_at net c).replies in

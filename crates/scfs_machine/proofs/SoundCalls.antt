@@ -111,8 +111,8 @@ module _ (s : Setup) (Among : (c : ℕ) → (bytes : List ℕ) → Type 0) where
   unless_keeps agent (Ok x) on h each = each x
   unless_keeps agent (Err why) on h each = (h, tt)
 
-  changes_keep : (agent : Agent Version) (result : Result Session Refusal) (on : Session → Reaction Version) → IsAgent s Among agent → IsChanged result
-      → ((y : Session) → IsSession y → Is (on y)) → Is (unless_refused agent result on)
+  changes_keep : (agent : Agent Version) (result : Result Session Refusal) (on : Session → Reaction Version) → IsAgent s Among agent
+      → IsChanged result       → ((y : Session) → IsSession y → Is (on y)) → Is (unless_refused agent result on)
   changes_keep agent (Ok y) on h fits each = each y fits
   changes_keep agent (Err why) on h fits each = (h, tt)
 
@@ -121,11 +121,11 @@ module _ (s : Setup) (Among : (c : ℕ) → (bytes : List ℕ) → Type 0) where
   ends agent h (Some y) is fits =
       let sessions = ended_fits agent.sessions h is.1 in
       either Is y.writes _ _
-      ((tt, sessions, each_append (IsClosed s Among) agent.closed ((record { number = h; session = y; upload = None }) ∷ []) is.2 ((fits, tt), tt)), tt)
+      ((tt, sessions, each_append (IsClosed s Among) agent.closed (_ ∷ []) is.2 ((fits, tt), tt)), tt)
       ((is.0, sessions, is.2), tt)
 
   room_keeps : (agent : Agent Version) (r : Reaction Version) → IsAgent s Among agent → Is r → Is (with_room agent r)
-  room_keeps agent r is h = either Is (nat_lt (length agent.sessions + length agent.closed) handles_limit) r (refuse agent refusals.TooManyHandles) h (is, tt)
+  room_keeps agent r is h = either Is (nat_lt (length agent.sessions + length agent.closed) handles_limit) r _ h (is, tt)
 
   module _ (a : ℕ) (agent : Agent Version) (is : IsAgent s Among agent) where
     called_keeps : (call : Call) → IsWritten call → Is (called a s agent call)

@@ -24,10 +24,10 @@ use Rattle.scfs_machine.specs.Runs.{mapped, effect_of, effect_after}
 use Rattle.scfs_machine.specs.Clouds.{net, message_of, IsServed}
 use Rattle.scfs_machine.specs.Sound.{FitsPlace, WasClosed, IsSound}
 use Rattle.scfs_machine.specs.Blocks.{blocks_asked, blocks_sent, blocks_answered, blocks_at, new_blocks, blocks, NoClash}
-use Rattle.scfs_machine.specs.Laws.{WritesBytes, BringsBytes, AreEvents}
+use Rattle.scfs_machine.specs.Laws.{WritesBytes, BringsBytes, AreEvents, SoundWithoutClash}
 use Rattle.scfs_machine.proofs.TwoLayers.{entry_alike, states_alike}
 use Rattle.scfs_machine.proofs.SoundLists.{Each, each_replicate}
-use Rattle.scfs_machine.proofs.SoundKept.{IsSession, IsWritten, IsSeat, IsState, IsHeard, IsGiven, IsPlace, IsAsked, IsSent}
+use Rattle.scfs_machine.proofs.SoundKept.{IsSession, IsWritten, IsSeat, IsState, IsGiven, IsPlace, IsAsked, IsSent}
 use Rattle.scfs_machine.proofs.SoundStates.{place_keeps, place_fits}
 use Rattle.scfs_machine.proofs.SoundAnswers.{IsOf, IsMade, AreMade, given_made}
 use Rattle.scfs_machine.proofs.SoundUnit.{AreAmong, IsAmong, heard, gives_back}
@@ -89,8 +89,8 @@ module _ (header : Header) (whole : List (List ℕ)) (few : header.f ≤ 3) (apa
       )
 
   -- an event of the header
-  placed : (past : History) (event : Event) (message : Option Message) → IsServed s past → AreMade IsAnswer past → IsEvent header event → BringsBytes event
-      → message ≡ message_of (net s past) event → IsPlace s Among message (place_of event)
+  placed : (past : History) (event : Event) (message : Option Message) → IsServed s past → AreMade IsAnswer past
+      → IsEvent header event → BringsBytes event      → message ≡ message_of (net s past) event → IsPlace s Among message (place_of event)
   placed past (events.Call a call) message served made valid brings is = written call brings
   placed past (events.Give c) message served made below brings is = given_heard c message below (given_made IsAnswer s past c message served made is)
   placed past other message served made valid brings is = tt
@@ -126,7 +126,6 @@ module _ (header : Header) (whole : List (List ℕ)) (few : header.f ≤ 3) (apa
       (subst (Each (IsSent s Among)) (sent_alike s past e before.0 sound) put) in
       ((sound, before.0), kept)
 
-pub sound_without_clash : (header : Header) (past : History) → IsHeader header → IsServed (under header) past → AreEvents header past → NoClash header past
-    → IsSound (under header) past
+pub sound_without_clash : SoundWithoutClash
 sound_without_clash header past ok served valid apart =
     (past_is_sound header (blocks header past) ok.f.1 apart past served valid (λ block there. there)).0

@@ -1,5 +1,5 @@
 -- An open, from its sight to its session, keeps what holds of an agent's versions and sessions: its pieces stay good ones of different clouds.
-use Rattle.std.proofs.Common.{◌≡◌, ◌≢◌, arith, ℕ, ◌<◌, List, [], ◌∷◌, ◌++◌, map, refl, sym, ◌∙◌, subst, Option, Some, None, Bool, true, false, not, ◌&&◌, ◌||◌, true≢false, append-nil, eq-eqb, ◌+◌}
+use Rattle.std.proofs.Common.{◌≡◌, ◌≢◌, arith, ℕ, List, [], ◌∷◌, ◌++◌, map, refl, sym, ◌∙◌, subst, Option, Some, None, Bool, true, false, not, ◌&&◌, ◌||◌, true≢false, append-nil, eq-eqb, ◌+◌}
 use Rattle.std.specs.Prelude.{◌==◌, if◌then◌else◌, option_to_list, is_some}
 use Rattle.std.specs.List.{All, AllPairs, list_any}
 use Rattle.std.proofs.lemmas.List.{map-append}
@@ -10,7 +10,7 @@ use Rattle.scfs_base.specs.declared.naming.RequestNo.{RequestNo}
 use Rattle.scfs_base.specs.declared.cloud.CloudAnswer.{CloudAnswer}
 use Rattle.scfs_base.specs.declared.cloud.CloudAnswer.TheVariants as answers
 use Rattle.scfs_unit.specs.declared.pieces.KeptPiece.{KeptPiece}
-use Rattle.scfs_machine.specs.Format.{Setup, clouds_of}
+use Rattle.scfs_machine.specs.Format.{Setup}
 use Rattle.scfs_machine.specs.Asked.{is_answer_to}
 use Rattle.scfs_machine.specs.Reading.{Reading, if_size, piece_in, is_good, is_awaited, with_piece, read_on, read_turn}
 use Rattle.scfs_machine.proofs.SoundLists.{each_append, Any, either}
@@ -76,7 +76,8 @@ module _ (s : Setup) (Among : (c : ℕ) → (bytes : List ℕ) → Type 0) where
       let new : All (λ a. a ≢ piece.cloud) (map cloud pieces) = subst (λ k. All (λ a. a ≢ k) (map cloud pieces)) (sym from.cloud) apart in
       record {
         each = each_append (IsGood s Among root) pieces (piece ∷ []) h.each (from.good, tt);
-        different = subst (AllPairs (λ a b. a ≢ b)) (sym (map-append cloud pieces (piece ∷ []))) (all_pairs_push (λ a b. a ≢ b) (map cloud pieces) piece.cloud h.different new);
+        different = subst (AllPairs (λ a b. a ≢ b)) (sym (map-append cloud pieces (piece ∷ [])))
+            (all_pairs_push (λ a b. a ≢ b) (map cloud pieces) piece.cloud h.different new);
       }
 
   with_heard : (r : Reading) (c : ℕ) (there : Option KeptPiece) → AreGood s Among r.root r.pieces → is_good r c ≡ false
@@ -88,7 +89,8 @@ module _ (s : Setup) (Among : (c : ℕ) → (bytes : List ℕ) → Type 0) where
   pub heard_good : (r : Reading) (c : ℕ) (request : RequestNo) (answer : CloudAnswer) → AreGood s Among r.root r.pieces → IsHeard s Among c answer
       → is_awaited r c request ≡ true → AreGood s Among r.root (r.pieces ++ option_to_list (piece_in s r c answer))
   heard_good r c request answer h heard counts =
-      with_heard r c (piece_in s r c answer) h (both (is_answer_to r.gets c request) (is_good r c) counts) (λ piece. heard_from r c answer piece heard)
+      with_heard r c (piece_in s r c answer) h (both (is_answer_to r.gets c request) (is_good r c) counts)
+      (λ piece. heard_from r c answer piece heard)
 
 module _ (s : Setup) (Among : (c : ℕ) → (bytes : List ℕ) → Type 0) (a : ℕ) where
   abbrev Is : Reaction Version → Type 0

@@ -1,5 +1,5 @@
 -- What an agent does on an input keeps what holds of its versions and sessions: what it seals is put.
-use Rattle.std.proofs.Common.{ℕ, zero, suc, ◌+◌, ◌<◌, List, map, subst, arith, eq-or-lt_of_le, inl, inr, ◌≤◌, ◌≡◌, [], ◌∷◌, Option, Some, None, true, false, Ok, Err}
+use Rattle.std.proofs.Common.{ℕ, zero, suc, ◌+◌, ◌<◌, List, map, subst, arith, eq-or-lt_of_le, inl, inr, ◌≤◌, [], ◌∷◌, Option, Some, None, true, false, Ok, Err}
 use Rattle.std.specs.List.{range_with_len}
 use Rattle.scfs_base.specs.declared.naming.RequestNo.{RequestNo}
 use Rattle.scfs_base.specs.declared.cloud.CloudAnswer.{CloudAnswer}
@@ -15,8 +15,6 @@ use Rattle.scfs_machine.specs.Closes.{with_storing, stores, upload_hears, upload
 use Rattle.scfs_machine.specs.Layers.{Version, closes}
 use Rattle.scfs_machine.proofs.SoundLists.{Each, either, Any, each_append, each_behind}
 use Rattle.scfs_machine.proofs.SoundKept.{IsSession, IsUpload, IsAgent, IsReaction, IsSent, IsOpening, IsWaiting, IsClosed, IsRequest, IsSessionOutcome, IsOk, IsOutcome, IsInput}
-use Rattle.scfs_base.specs.declared.naming.Digest.{Digest}
-use Rattle.scfs_unit.specs.declared.pieces.KeptPiece.{KeptPiece}
 use Rattle.scfs_machine.specs.Given.{Given}
 use Rattle.scfs_machine.specs.Walks.{OrRefusal}
 use Rattle.scfs_machine.specs.SessionSteps.{Session_step, Open_read, Open_write, Commit, Session_outcome, Sees, Locks, Completes}
@@ -53,7 +51,7 @@ module _ (s : Setup) (Among : (c : ℕ) → (bytes : List ℕ) → Type 0) (a : 
     pub upload_hears_keep : (u : Upload Version) (c : ℕ) (request : RequestNo) (answer : CloudAnswer) → IsUpload s Among u
         → Is (upload_hears s a agent x u c request answer)
     upload_hears_keep u c request answer h =
-        either Is (is_new_ack u.storing c request answer) (stores s a agent x (with_storing u (with_ack u.storing c)) (store_on s u.storing)) (stores s a agent x u Goes_on)
+        either Is (is_new_ack u.storing c request answer) _ _
         (stores_keep (with_storing u (with_ack u.storing c)) (store_on s u.storing) h) (stores_keep u Goes_on h)
 
     pub upload_turns_keep : (u : Upload Version) → IsUpload s Among u → Is (upload_turns s a agent x u)
@@ -96,11 +94,13 @@ module _ (s : Setup) (Among : (c : ℕ) → (bytes : List ℕ) → Type 0) (a : 
     told_keeps (Of_sessions x r) k = sessions_keep x r k
 
   -- its work with clouds
-  module _ (on_open : Agent Version → Opening Version → Reaction Version) (on_upload : Agent Version → Closed Version → Upload Version → Reaction Version)
+  module _ (on_open : Agent Version → Opening Version → Reaction Version)
+      (on_upload : Agent Version → Closed Version → Upload Version → Reaction Version)
       (open_is : (agent : Agent Version) (o : Opening Version) → IsAgent s Among agent → IsOpening s Among o → Is (on_open agent o))
-      (upload_is : (agent : Agent Version) (x : Closed Version) (u : Upload Version) → IsAgent s Among agent → IsSession x.session → IsUpload s Among u
-      → Is (on_upload agent x u)) where
-    first_keeps : (agent : Agent Version) (waiting : Option (Waiting Version)) → IsAgent s Among agent → IsWaiting s Among waiting → Is (to_open agent on_open waiting)
+      (upload_is : (agent : Agent Version) (x : Closed Version) (u : Upload Version) → IsAgent s Among agent → IsSession x.session
+      → IsUpload s Among u → Is (on_upload agent x u)) where
+    first_keeps : (agent : Agent Version) (waiting : Option (Waiting Version)) → IsAgent s Among agent → IsWaiting s Among waiting
+        → Is (to_open agent on_open waiting)
     first_keeps agent None is k = (is, tt)
     first_keeps agent (Some For_step) is k = (is, tt)
     first_keeps agent (Some (For_clouds o)) is k = open_is (idle agent) o (tt, is.1, is.2) k
@@ -111,7 +111,8 @@ module _ (s : Setup) (Among : (c : ℕ) → (bytes : List ℕ) → Type 0) (a : 
     upload_keeps agent x rest None is fits k h = (is, tt)
     upload_keeps agent x rest (Some u) is fits k h = upload_is (record agent { closed = rest }) x u (is.0, is.1, k) fits h
 
-    second_keeps : (agent : Agent Version) (waiting : List (Closed Version)) → IsAgent s Among agent → Each (IsClosed s Among) waiting → Is (to_upload agent on_upload waiting)
+    second_keeps : (agent : Agent Version) (waiting : List (Closed Version)) → IsAgent s Among agent → Each (IsClosed s Among) waiting
+        → Is (to_upload agent on_upload waiting)
     second_keeps agent [] is k = (is, tt)
     second_keeps agent (x ∷ rest) is k = upload_keeps agent x rest x.upload is k.0.0 k.1 k.0.1
 
@@ -120,10 +121,10 @@ module _ (s : Setup) (Among : (c : ℕ) → (bytes : List ℕ) → Type 0) (a : 
         let first = first_keeps agent agent.waiting is is.0 in
         let next = (to_open agent on_open agent.waiting).agent in
         let second = second_keeps next next.closed first.0 first.0.2 in
-        (second.0, each_append (IsRequest s Among) (to_open agent on_open agent.waiting).steps (to_upload next on_upload next.closed).steps first.1 second.1)
+        (second.0, each_append (IsRequest s Among) (to_open agent on_open agent.waiting).steps _ first.1 second.1)
 
-  begun_keeps : (agent : Agent Version) (rest : List (Closed Version)) (x : Closed Version) (u : Option (Upload Version)) → IsAgent s Among agent → IsSession x.session
-      → Each (IsClosed s Among) rest → Each (IsSent s Among) (begun s (closes s) a agent rest x u).sent → Is (begun s (closes s) a agent rest x u)
+  begun_keeps : (agent : Agent Version) (rest : List (Closed Version)) (x : Closed Version) (u : Option (Upload Version)) → IsAgent s Among agent
+      → IsSession x.session → Each (IsClosed s Among) rest → Each (IsSent s Among) (begun s (closes s) a agent rest x u).sent → Is (begun s (closes s) a agent rest x u)
   begun_keeps agent rest x None is fits k sent = begins_keep (record agent { closed = rest }) x (is.0, is.1, k) fits sent
   begun_keeps agent rest x (Some u) is fits k sent = (is, tt)
 

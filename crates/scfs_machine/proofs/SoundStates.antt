@@ -1,12 +1,11 @@
 -- An event keeps what holds of the file map, and what it gives an open is what was closed.
-use Rattle.std.proofs.Common.{◌≡◌, ℕ, ◌+◌, ◌<◌, List, [], ◌∷◌, Option, Some, None, Ok, Err, slice_get, slice_set, ◌++◌, length, refl, subst, arith, Bool, true, false, length-append, eqb-true}
+use Rattle.std.proofs.Common.{◌≡◌, ℕ, ◌+◌, List, [], ◌∷◌, Option, Some, None, Ok, Err, slice_get, slice_set, ◌++◌, length, refl, subst, arith, Bool, true, false, length-append, eqb-true}
 use Rattle.std.specs.Prelude.{◌-◌, ◌==◌, if◌then◌else◌, option_to_list}
-use Rattle.scfs_base.specs.declared.naming.Digest.{Digest}
 use Rattle.scfs_base.specs.declared.naming.RequestNo.{RequestNo}
 use Rattle.scfs_schedule.specs.declared.types.Line.{Line}
 use Rattle.scfs_schedule.specs.declared.types.Line.TheVariants as lines
 use Rattle.scfs_unit.specs.declared.pieces.KeptPiece.{KeptPiece}
-use Rattle.scfs_machine.specs.Format.{Setup, clouds_of, sealed}
+use Rattle.scfs_machine.specs.Format.{Setup, sealed}
 use Rattle.scfs_machine.specs.History.{Message, Of_request, Of_answer}
 use Rattle.scfs_machine.specs.Given.{Given}
 use Rattle.scfs_machine.specs.Tree.{Tree, live, session_lock, node_at}
@@ -45,8 +44,8 @@ module _ (s : Setup) (Among : (c : ℕ) → (bytes : List ℕ) → Type 0) where
   outcome_keeps tree now until request (Commit h v) k w =
       ok_on (IsSessionOutcome s Among) (still_held (session_lock tree.locks request v.file h) (node_at tree.nodes v.file (v.number - 1))) _ (λ n. w)
 
-  after_keeps : (tree : Tree Version) (request : RequestNo) (r : OrRefusal (Session_outcome Version)) → AreVersions tree → IsOk s Among (IsSessionOutcome s Among) r
-      → AreVersions (after_ok tree (session_after (closes s) tree request) r)
+  after_keeps : (tree : Tree Version) (request : RequestNo) (r : OrRefusal (Session_outcome Version)) → AreVersions tree
+      → IsOk s Among (IsSessionOutcome s Among) r → AreVersions (after_ok tree (session_after (closes s) tree request) r)
   after_keeps tree request (Ok (Sees sight)) k w = k
   after_keeps tree request (Ok (Locks sight l)) k w = k
   after_keeps tree request (Ok (Completes h v n)) k w = each_append (IsVersion s Among) tree.versions (v ∷ []) k (w, tt)
@@ -68,9 +67,11 @@ module _ (s : Setup) (Among : (c : ℕ) → (bytes : List ℕ) → Type 0) where
     seat_keeps : (a : ℕ) (seat : Seat Version) → IsSeat s Among seat → Each (IsSeat s Among) (slice_set state.seats a seat)
     seat_keeps a seat h = each_set (IsSeat s Among) state.seats a seat is.1 h
 
-    at_seat_keeps : (a : ℕ) (on : Seat Version → Effect Version) → ((seat : Seat Version) → IsSeat s Among seat → Keeps (on seat)) → Keeps (at_seat state a on)
+    at_seat_keeps : (a : ℕ) (on : Seat Version → Effect Version) → ((seat : Seat Version) → IsSeat s Among seat → Keeps (on seat))
+        → Keeps (at_seat state a on)
     at_seat_keeps a on each =
-        on_there (IsSeat s Among) Keeps (slice_get state.seats a) (leaving state []) on (each_get (IsSeat s Among) state.seats a is.1) (λ sent. is) each
+        on_there (IsSeat s Among) Keeps (slice_get state.seats a) (leaving state []) on (each_get (IsSeat s Among) state.seats a is.1)
+        (λ sent. is) each
 
     serves_keep : (a : ℕ) (seat : Seat Version) (asked : List (Request Version)) → IsSeat s Among seat → Each (IsRequest s Among) asked
         → Keeps (serves s (closes s) state a seat asked)
@@ -110,9 +111,11 @@ module _ (s : Setup) (Among : (c : ℕ) → (bytes : List ℕ) → Type 0) where
       gives_keep c None k = λ sent. is
       gives_keep c (Some (Of_request request)) k = λ sent. is
       gives_keep c (Some (Of_answer request answer)) k =
-          at_seat_keeps request.agent _ (λ seat h. comes_keep request.agent (lines.Gave c request (sum_of s answer) ∷ []) (Hears c request answer) seat k h)
+          at_seat_keeps request.agent _ (λ seat h.
+          comes_keep request.agent (lines.Gave c request (sum_of s answer) ∷ []) (Hears c request answer) seat k h)
 
-      agent_keeps : (a : ℕ) (x : At_agent) (seat : Seat Version) → IsBrought x → IsSeat s Among seat → Keeps (at_agent s (closes s) state given a x seat)
+      agent_keeps : (a : ℕ) (x : At_agent) (seat : Seat Version) → IsBrought x → IsSeat s Among seat
+          → Keeps (at_agent s (closes s) state given a x seat)
       agent_keeps a (Call_comes call) seat k h = comes_keep a [] (Calls call) seat k h
       agent_keeps a Turn_comes seat k h = comes_keep a [] Turns seat tt h
 
@@ -158,8 +161,8 @@ module _ (s : Setup) (Among : (c : ℕ) → (bytes : List ℕ) → Type 0) (give
       λ counts. read_fits o (piece_in s o.reading c answer) h (heard_good s Among o.reading c request answer h.good heard counts)
   heard_fits c request answer (Some For_close) heard h = tt
 
-  at_fits : (c : ℕ) (request : RequestNo) (answer : CloudAnswer) (there : Option (Seat Version)) → IsHeard s Among c answer → Any (IsSeat s Among) there
-      → FitsAt s WasClosed c request answer there
+  at_fits : (c : ℕ) (request : RequestNo) (answer : CloudAnswer) (there : Option (Seat Version)) → IsHeard s Among c answer
+      → Any (IsSeat s Among) there → FitsAt s WasClosed c request answer there
   at_fits c request answer None heard h = tt
   at_fits c request answer (Some seat) heard h = heard_fits c request answer seat.agent.waiting heard h.0.0
 

@@ -46,7 +46,8 @@ IsAmong f whole c bytes = AreAmong (blocks_of_answer f c bytes) whole
 room_of : (f : ℕ) (bytes : List ℕ) → has_length f bytes ≡ true → manifest_size f + 32 ≤ length bytes
 unfolding has_length
 room_of f bytes h =
-    leb-true (manifest_size f + 32) (length bytes) (and_parts (nat_le (manifest_size f + 32) (length bytes)) (length bytes == object_size f (length_in bytes)) h).0
+    leb-true (manifest_size f + 32) (length bytes)
+    (and_parts (nat_le (manifest_size f + 32) (length bytes)) (length bytes == object_size f (length_in bytes)) h).0
 
 -- the two blocks of bytes that have room for them
 blocks_are : (f c : ℕ) (bytes : List ℕ) → manifest_size f + 32 ≤ length bytes
@@ -74,15 +75,18 @@ unfolding has_root has_piece
 has_passed f c root whole bytes piece among e =
     let passed = checked-passed f c root bytes piece e in
     let both = blocks_are f c bytes (room_of f bytes passed.has_length) in
+    let front = root_text (manifest_in f bytes) in
+    let back = block_text c (rest_in f bytes) in
     record {
-      front = among (root_text (manifest_in f bytes)) (subst (λ blocks. Contains blocks (root_text (manifest_in f bytes))) (sym both) (0, omega arith, refl));
-      back = among (block_text c (rest_in f bytes)) (subst (λ blocks. Contains blocks (block_text c (rest_in f bytes))) (sym both) (1, omega arith, refl));
+      front = among front (subst (λ blocks. Contains blocks front) (sym both) (0, omega arith, refl));
+      back = among back (subst (λ blocks. Contains blocks back) (sym both) (1, omega arith, refl));
       rooted = (bytes_eq-Decides (sha256 (root_text (manifest_in f bytes))) root.0).0 passed.has_root;
       named = (bytes_eq-Decides (sha256 (block_text c (rest_in f bytes))) (digest_in c (manifest_in f bytes))).0 passed.has_piece;
     }
 
 -- where no two different blocks share a digest they are the same
-same_bytes : (f c : ℕ) (root : Digest) (whole : List (List ℕ)) (xs ys : List ℕ) → NoClash whole → HasPassed f c root whole xs → HasPassed f c root whole ys → xs ≡ ys
+same_bytes : (f c : ℕ) (root : Digest) (whole : List (List ℕ)) (xs ys : List ℕ) → NoClash whole
+    → HasPassed f c root whole xs → HasPassed f c root whole ys → xs ≡ ys
 same_bytes f c root whole xs ys apart h k =
     let front : manifest_in f xs ≡ manifest_in f ys =
     same_manifest (manifest_in f xs) (manifest_in f ys)
@@ -193,6 +197,6 @@ module _ (header : Header) (whole : List (List ℕ)) (few : header.f ≤ 3) (apa
       unseal-some header.f (drawn seed header.f) v.bytes pieces few (IsDraw-drawn seed header.f) is.fits.are_bytes (record {
         as_many = count;
         different = good.different;
-        among = All-weaker (IsGood s Among root) (Contains (unit_pieces header.f (drawn seed header.f) v.bytes)) (λ piece. own_piece v piece is) pieces
-            (all_of_each (IsGood s Among root) pieces good.each);
+        among = All-weaker (IsGood s Among root) (Contains (unit_pieces header.f (drawn seed header.f) v.bytes)) (λ piece. own_piece v piece is)
+            pieces (all_of_each (IsGood s Among root) pieces good.each);
       })
