@@ -1,5 +1,5 @@
 -- What holds of each answer that a cloud made holds of each that an agent is given.
-use Rattle.std.proofs.Common.{◌≡◌, ℕ, zero, suc, ◌+◌, ◌*◌, List, [], ◌∷◌, take, drop, get_or, set, replicate, refl, sym, ap, subst, Option, Some, None, ◌⊎◌, inl, inr}
+use Rattle.std.proofs.Common.{◌≡◌, ℕ, zero, suc, ◌+◌, ◌*◌, List, [], ◌∷◌, take, drop, get_or, set, replicate, refl, sym, ap, subst, Option, Some, ◌⊎◌, inl, inr}
 use Rattle.scfs_base.specs.declared.cloud.CloudAnswer.{CloudAnswer}
 use Rattle.scfs_base.specs.declared.cloud.CloudAnswer.TheVariants as answers
 use Rattle.scfs_schedule.specs.declared.types.Event.{Event}
@@ -9,10 +9,10 @@ use Rattle.scfs_net.specs.declared.messages.Given.{Given}
 use Rattle.scfs_net.specs.Queues.{CloudState, NetState, Answering, new_cloud, cloud_at, at_cloud, net_answered, net_did, answer_to, after_answer, asked, answered, serving, hiding, always, lost, taken, deferred, swapped, repeated, doubled}
 use Rattle.scfs_machine.specs.Lists.{first_of}
 use Rattle.scfs_machine.specs.Format.{Setup}
-use Rattle.scfs_machine.specs.History.{Message, Of_request, Of_answer, Entry, History}
+use Rattle.scfs_machine.specs.History.{Message, Of_answer, Entry, History}
+use Rattle.scfs_machine.specs.Layers.{rows}
 use Rattle.scfs_machine.specs.Agents.{Sent}
 use Rattle.scfs_machine.specs.Events.{Place, Cloud_has, Request_answered, place_of}
-use Rattle.scfs_machine.specs.Layers.{rows}
 use Rattle.scfs_machine.specs.Runs.{effect_after}
 use Rattle.scfs_machine.specs.Clouds.{moved_by, asked_by, all_asked, net, did_message, reply_message, message_of, IsServed}
 use Rattle.scfs_machine.proofs.SoundLists.{Each, each_append, each_moved}
@@ -40,9 +40,8 @@ new_at (suc n) (suc c) = new_at n c
 module _ (P : (c : ℕ) → CloudAnswer → Type 0) where
   -- it holds of the answer in a message
   abbrev pub IsOf : (c : ℕ) → Option Message → Type 0
-  IsOf c None = Unit {0}
-  IsOf c (Some (Of_request request)) = Unit {0}
   IsOf c (Some (Of_answer request answer)) = P c answer
+  IsOf c other = Unit {0}
 
   -- of the answer that an event makes
   abbrev pub IsMade : Option Message → Place → Type 0

@@ -7,22 +7,22 @@ use Rattle.std.specs.Ordering.{nat_cmp}
 use Rattle.std.proofs.lemmas.List.{length-replicate}
 use Rattle.std.proofs.lemmas.List.Elements.{All-nil, All-append, All-take, All-drop, All-replicate}
 use Rattle.std.proofs.lemmas.Map.Views.{IfSome-lookup_from_All, All-values-insert_entry, All-values-set_value, All-map-remove_entry}
-use Rattle.scfs_schedule.specs.declared.types.Refusal.{Refusal}
-use Rattle.scfs_schedule.specs.declared.types.Refusal.TheVariants as refusals
 use Rattle.scfs_session.specs.declared.sessions.Session.{Session}
 use Rattle.scfs_session.specs.declared.contents.TheConstants.{CONTENTS_LIMIT}
 use Rattle.scfs_session.specs.Contents.{resized, written}
 use Rattle.scfs_session.specs.Open.{OpenSessions, session_of, opened, ended, change_refusal, unless, changed, after_write, after_truncate, sessions_after, read_answer}
-use Rattle.scfs_machine.proofs.SoundKept.{AreBytes, IsContents, IsSession, IsWritten, IsClosed, IsAgent, IsReaction}
+use Rattle.scfs_schedule.specs.declared.types.Refusal.{Refusal}
+use Rattle.scfs_schedule.specs.declared.types.Refusal.TheVariants as refusals
 use Rattle.scfs_schedule.specs.declared.types.Call.{Call}
 use Rattle.scfs_schedule.specs.declared.types.Call.TheVariants as calls
 use Rattle.scfs_machine.specs.Limits.{handles_limit}
 use Rattle.scfs_machine.specs.Format.{Setup}
+use Rattle.scfs_machine.specs.Layers.{Version}
 use Rattle.scfs_machine.specs.SessionSteps.{Open_read, Open_write}
 use Rattle.scfs_machine.specs.Agents.{Waiting, Agent, Reaction}
-use Rattle.scfs_machine.specs.Calls.{path_names, any_names, refuse, unless_refused, with_room, close, makes, looks, opens, called, call_of}
-use Rattle.scfs_machine.specs.Layers.{Version}
+use Rattle.scfs_machine.specs.Calls.{path_names, any_names, unless_refused, with_room, close, makes, looks, opens, called, call_of}
 use Rattle.scfs_machine.proofs.SoundLists.{each_append, either}
+use Rattle.scfs_machine.proofs.SoundKept.{AreBytes, IsContents, IsSession, IsWritten, IsClosed, IsAgent, IsReaction}
 
 pub no_contents : IsContents []
 no_contents = record { are_bytes = All-nil (λ b. b < 256); small = omega arith }
@@ -56,7 +56,7 @@ written_fits contents offset (x ∷ xs) bytes h within =
     }
 
 -- a session after a change, or its refusal
-abbrev pub IsChanged : Result Session Refusal → Type 0
+abbrev IsChanged : Result Session Refusal → Type 0
 IsChanged (Ok y) = IsSession y
 IsChanged (Err why) = Unit {0}
 
@@ -81,24 +81,24 @@ abbrev pub AreSessions : OpenSessions → Type 0
 AreSessions sessions = All IsSession (values_of sessions)
 
 module _ (sessions : OpenSessions) (h : ℕ) (each : AreSessions sessions) where
-  pub there_fits : IfSome (session_of sessions h) IsSession
+  there_fits : IfSome (session_of sessions h) IsSession
   there_fits = IfSome-lookup_from_All IsSession (is_at (nat_cmp h)) sessions each
 
   pub opened_fits : (y : Session) → IsSession y → AreSessions (opened sessions h y)
   opened_fits y fits = All-values-insert_entry nat_cmp h y IsSession sessions each fits
 
-  pub ended_fits : AreSessions (ended sessions h)
+  ended_fits : AreSessions (ended sessions h)
   ended_fits = All-map-remove_entry (is_at (nat_cmp h)) (λ e. e.1) IsSession sessions each
 
-  pub after_fits : (y : Session) → IsSession y → AreSessions (sessions_after sessions h (Ok y))
+  after_fits : (y : Session) → IsSession y → AreSessions (sessions_after sessions h (Ok y))
   after_fits y fits = All-values-set_value (is_at (nat_cmp h)) IsSession sessions y each fits
 
-  pub write_fits : (offset : ℕ) (new : List ℕ) → AreBytes new → IsChanged (after_write (session_of sessions h) offset new)
+  write_fits : (offset : ℕ) (new : List ℕ) → AreBytes new → IsChanged (after_write (session_of sessions h) offset new)
   write_fits offset new bytes =
       changed_fits (session_of sessions h) (offset + length new) (λ contents. written contents offset new) there_fits
       (λ contents. written_fits contents offset new bytes)
 
-  pub truncate_fits : (size : ℕ) → IsChanged (after_truncate (session_of sessions h) size)
+  truncate_fits : (size : ℕ) → IsChanged (after_truncate (session_of sessions h) size)
   truncate_fits size =
       changed_fits (session_of sessions h) size (λ contents. resized contents size) there_fits (λ contents. resized_fits contents size)
 
@@ -112,7 +112,7 @@ module _ (s : Setup) (Among : (c : ℕ) → (bytes : List ℕ) → Type 0) where
   unless_keeps agent (Err why) on h each = (h, tt)
 
   changes_keep : (agent : Agent Version) (result : Result Session Refusal) (on : Session → Reaction Version) → IsAgent s Among agent
-      → IsChanged result       → ((y : Session) → IsSession y → Is (on y)) → Is (unless_refused agent result on)
+      → IsChanged result → ((y : Session) → IsSession y → Is (on y)) → Is (unless_refused agent result on)
   changes_keep agent (Ok y) on h fits each = each y fits
   changes_keep agent (Err why) on h fits each = (h, tt)
 

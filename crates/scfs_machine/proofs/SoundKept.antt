@@ -1,5 +1,5 @@
 -- What holds of the versions, pieces and contents in every part of the file map, where the objects of each upload are among those looked at.
-use Rattle.std.specs.Prelude.{◌≡◌, ℕ, ◌<◌, ◌≤◌, ◌≢◌, List, length, map, Option, Some, None, Ok, Err}
+use Rattle.std.specs.Prelude.{◌≡◌, ℕ, ◌<◌, ◌≤◌, ◌≢◌, List, length, map, Option, Some, Ok, Err}
 use Rattle.std.specs.List.{All, AllPairs}
 use Rattle.std.specs.Map.{values_of}
 use Rattle.scfs_base.specs.declared.naming.Digest.{Digest}
@@ -8,19 +8,19 @@ use Rattle.scfs_base.specs.declared.cloud.CloudAnswer.{CloudAnswer}
 use Rattle.scfs_base.specs.declared.cloud.CloudAnswer.TheVariants as answers
 use Rattle.scfs_base.specs.declared.cloud.CloudRequest.{CloudRequest}
 use Rattle.scfs_base.specs.declared.cloud.CloudRequest.TheVariants as requests
+use Rattle.scfs_unit.specs.declared.pieces.KeptPiece.{KeptPiece}
+use Rattle.scfs_session.specs.declared.sessions.Session.{Session}
 use Rattle.scfs_schedule.specs.declared.types.Call.{Call}
 use Rattle.scfs_schedule.specs.declared.types.Call.TheVariants as calls
-use Rattle.scfs_session.specs.declared.sessions.Session.{Session}
-use Rattle.scfs_unit.specs.declared.pieces.KeptPiece.{KeptPiece}
 use Rattle.scfs_machine.specs.Format.{Setup, clouds_of, sealed, object_at}
-use Rattle.scfs_machine.specs.History.{Message, Of_request, Of_answer}
-use Rattle.scfs_machine.specs.Events.{At_agent, Call_comes, Turn_comes, Request_answered, Answer_given, Message_moved, Place, Agent_has, Space_has, Cloud_has, Nowhere}
-use Rattle.scfs_machine.specs.Walks.{OrRefusal}
-use Rattle.scfs_machine.specs.SessionSteps.{Session_step, Open_read, Open_write, Commit, Session_outcome, Sees, Locks, Completes}
-use Rattle.scfs_machine.specs.Steps.{Step, On_names, On_locks, On_sessions, Outcome, Of_names, Of_locks, Of_sessions}
-use Rattle.scfs_machine.specs.Agents.{Opening, Waiting, For_step, For_clouds, For_close, Upload, Closed, Request, Agent, Input, Calls, Tells, Hears, Turns, Sent, Reaction}
-use Rattle.scfs_machine.specs.States.{Reply, Seat, State}
+use Rattle.scfs_machine.specs.History.{Message, Of_answer}
 use Rattle.scfs_machine.specs.Layers.{Version}
+use Rattle.scfs_machine.specs.Walks.{OrRefusal}
+use Rattle.scfs_machine.specs.SessionSteps.{Session_step, Commit, Session_outcome, Sees, Locks, Completes}
+use Rattle.scfs_machine.specs.Steps.{Step, On_sessions, Outcome, Of_sessions}
+use Rattle.scfs_machine.specs.Agents.{Opening, Waiting, For_clouds, Upload, Closed, Request, Agent, Input, Calls, Tells, Hears, Turns, Sent, Reaction}
+use Rattle.scfs_machine.specs.Events.{At_agent, Call_comes, Turn_comes, Answer_given, Place, Agent_has, Cloud_has}
+use Rattle.scfs_machine.specs.States.{Reply, Seat, State}
 use Rattle.scfs_machine.proofs.SoundLists.{Each, Any}
 
 abbrev pub AreBytes : List ℕ → Type 0
@@ -78,10 +78,8 @@ module _ (s : Setup) (Among : (c : ℕ) → (bytes : List ℕ) → Type 0) where
   IsOpening o = IsReading o.version o.reading.root o.reading.pieces
 
   abbrev pub IsWaiting : Option (Waiting Version) → Type 0
-  IsWaiting None = Unit {0}
-  IsWaiting (Some For_step) = Unit {0}
   IsWaiting (Some (For_clouds o)) = IsOpening o
-  IsWaiting (Some For_close) = Unit {0}
+  IsWaiting other = Unit {0}
 
   abbrev pub IsUpload : Upload Version → Type 0
   IsUpload u = IsVersion u.version
@@ -90,14 +88,12 @@ module _ (s : Setup) (Among : (c : ℕ) → (bytes : List ℕ) → Type 0) where
   IsClosed x = IsSession x.session × Any IsUpload x.upload
 
   abbrev pub IsSessionStep : Session_step Version → Type 0
-  IsSessionStep (Open_read names h) = Unit {0}
-  IsSessionStep (Open_write names h) = Unit {0}
   IsSessionStep (Commit h v) = IsVersion v
+  IsSessionStep other = Unit {0}
 
   abbrev pub IsStep : Step Version → Type 0
-  IsStep (On_names x) = Unit {0}
-  IsStep (On_locks x) = Unit {0}
   IsStep (On_sessions x) = IsSessionStep x
+  IsStep other = Unit {0}
 
   abbrev pub IsRequest : Request Version → Type 0
   IsRequest r = IsStep r.step
@@ -112,9 +108,8 @@ module _ (s : Setup) (Among : (c : ℕ) → (bytes : List ℕ) → Type 0) where
   IsOk P (Err why) = Unit {0}
 
   abbrev pub IsOutcome : Outcome Version → Type 0
-  IsOutcome (Of_names x r) = Unit {0}
-  IsOutcome (Of_locks x r) = Unit {0}
   IsOutcome (Of_sessions x r) = IsOk IsSessionOutcome r
+  IsOutcome other = Unit {0}
 
   abbrev pub IsReply : Reply Version → Type 0
   IsReply r = IsOutcome r.outcome
@@ -147,24 +142,18 @@ module _ (s : Setup) (Among : (c : ℕ) → (bytes : List ℕ) → Type 0) where
   -- a request whose object, where it puts one, is among them
   abbrev pub IsAsked : (c : ℕ) → CloudRequest → Type 0
   IsAsked c (requests.Put name body) = Among c body
-  IsAsked c (requests.Get name limit) = Unit {0}
-  IsAsked c (requests.Delete name) = Unit {0}
-  IsAsked c (requests.List prefix) = Unit {0}
+  IsAsked c other = Unit {0}
 
   abbrev pub IsSent : Sent → Type 0
   IsSent x = IsAsked x.cloud x.body
 
   -- an answer that is given is so
   abbrev pub IsGiven : (c : ℕ) → Option Message → Type 0
-  IsGiven c None = Unit {0}
-  IsGiven c (Some (Of_request request)) = Unit {0}
   IsGiven c (Some (Of_answer request answer)) = IsHeard c answer
+  IsGiven c other = Unit {0}
 
   -- an event whose call writes bytes, and whose answer is so
   abbrev pub IsPlace : Option Message → Place → Type 0
   IsPlace message (Agent_has a x) = IsBrought x
-  IsPlace message (Space_has a x) = Unit {0}
-  IsPlace message (Cloud_has c Request_answered) = Unit {0}
   IsPlace message (Cloud_has c Answer_given) = IsGiven c message
-  IsPlace message (Cloud_has c Message_moved) = Unit {0}
-  IsPlace message Nowhere = Unit {0}
+  IsPlace message other = Unit {0}

@@ -1,36 +1,36 @@
 -- Where no two different blocks of a history share a digest, each open from the clouds got what was closed as the version that it saw.
-use Rattle.std.proofs.Common.{◌≡◌, ℕ, ◌<◌, ◌≤◌, List, [], ◌∷◌, ◌++◌, length, ap, ◌∙◌, subst, Option, Some, None}
+use Rattle.std.proofs.Common.{◌≡◌, ℕ, ◌<◌, ◌≤◌, List, [], ◌∷◌, ◌++◌, length, ap, ◌∙◌, subst, Option, Some}
 use Rattle.std.proofs.lemmas.List.Elements.{All-nil, Contains-append_left, Contains-append_right}
 use Rattle.scfs_base.specs.declared.cloud.CloudAnswer.{CloudAnswer}
 use Rattle.scfs_base.specs.declared.cloud.CloudAnswer.TheVariants as answers
 use Rattle.scfs_base.specs.declared.cloud.CloudRequest.{CloudRequest}
 use Rattle.scfs_base.specs.declared.cloud.CloudRequest.TheVariants as requests
-use Rattle.scfs_schedule.specs.Grammar.{IsHeader, IsEvent}
+use Rattle.scfs_unit.specs.Clash as unit
+use Rattle.scfs_schedule.specs.Grammar.{IsEvent}
 use Rattle.scfs_schedule.specs.declared.types.Call.{Call}
 use Rattle.scfs_schedule.specs.declared.types.Call.TheVariants as calls
 use Rattle.scfs_schedule.specs.declared.types.Event.{Event}
 use Rattle.scfs_schedule.specs.declared.types.Event.TheVariants as events
 use Rattle.scfs_schedule.specs.declared.types.Header.{Header}
-use Rattle.scfs_unit.specs.Clash as unit
 use Rattle.scfs_machine.specs.Format.{Setup, clouds_of}
 use Rattle.scfs_machine.specs.UnitFormat.{under}
-use Rattle.scfs_machine.specs.History.{Message, Of_request, Of_answer, Entry, History}
+use Rattle.scfs_machine.specs.History.{Message, Of_answer, Entry, History}
+use Rattle.scfs_machine.specs.Layers.{Row, rows, closes}
 use Rattle.scfs_machine.specs.Given.{given_of}
 use Rattle.scfs_machine.specs.Agents.{Sent}
 use Rattle.scfs_machine.specs.Events.{Place, Cloud_has, Request_answered, place_of}
 use Rattle.scfs_machine.specs.States.{Effect, first_state, first_seat}
-use Rattle.scfs_machine.specs.Layers.{Row, rows, closes}
 use Rattle.scfs_machine.specs.Runs.{mapped, effect_of, effect_after}
 use Rattle.scfs_machine.specs.Clouds.{net, message_of, IsServed}
 use Rattle.scfs_machine.specs.Sound.{FitsPlace, WasClosed, IsSound}
-use Rattle.scfs_machine.specs.Blocks.{blocks_asked, blocks_sent, blocks_answered, blocks_at, new_blocks, blocks, NoClash}
-use Rattle.scfs_machine.specs.Laws.{WritesBytes, BringsBytes, AreEvents, SoundWithoutClash}
-use Rattle.scfs_machine.proofs.TwoLayers.{entry_alike, states_alike}
+use Rattle.scfs_machine.specs.Blocks.{blocks_asked, blocks_sent, blocks_answered, blocks_at, new_blocks, blocks}
+use Rattle.scfs_machine.specs.Laws.{WritesBytes, BringsBytes, AreEvents, SoundWithoutClash, RunsWithoutClash, NoClashBefore}
 use Rattle.scfs_machine.proofs.SoundLists.{Each, each_replicate}
 use Rattle.scfs_machine.proofs.SoundKept.{IsSession, IsWritten, IsSeat, IsState, IsGiven, IsPlace, IsAsked, IsSent}
 use Rattle.scfs_machine.proofs.SoundStates.{place_keeps, place_fits}
 use Rattle.scfs_machine.proofs.SoundAnswers.{IsOf, IsMade, AreMade, given_made}
 use Rattle.scfs_machine.proofs.SoundUnit.{AreAmong, IsAmong, heard, gives_back}
+use Rattle.scfs_machine.proofs.TwoLayers.{entry_alike, states_alike, is_run}
 
 -- blocks of a part are among those of the whole
 among_front : (xs ys whole : List (List ℕ)) → AreAmong (xs ++ ys) whole → AreAmong xs whole
@@ -40,7 +40,7 @@ among_back : (xs ys whole : List (List ℕ)) → AreAmong (xs ++ ys) whole → A
 among_back xs ys whole h block there = h block (Contains-append_right xs ys block there)
 
 -- a further event only adds blocks
-pub no_clash_before : (header : Header) (e : Entry) (past : History) → NoClash header (e ∷ past) → NoClash header past
+pub no_clash_before : NoClashBefore
 no_clash_before header e past apart x y there here =
     let new = new_blocks header past e in
     apart x y (Contains-append_right new (blocks header past) x there) (Contains-append_right new (blocks header past) y here)
@@ -71,9 +71,8 @@ module _ (header : Header) (whole : List (List ℕ)) (few : header.f ≤ 3) (apa
   given_heard c other below h = tt
 
   made_is : (c : ℕ) (message : Option Message) → AreAmong (blocks_at header.f message (Cloud_has c Request_answered)) whole → IsOf IsAnswer c message
-  made_is c None h = tt
-  made_is c (Some (Of_request request)) h = tt
   made_is c (Some (Of_answer request answer)) h = h
+  made_is c other h = tt
 
   made_at : (message : Option Message) (place : Place) → AreAmong (blocks_at header.f message place) whole → IsMade IsAnswer message place
   made_at message (Cloud_has c Request_answered) h = made_is c message h
@@ -90,16 +89,14 @@ module _ (header : Header) (whole : List (List ℕ)) (few : header.f ≤ 3) (apa
 
   -- an event of the header
   placed : (past : History) (event : Event) (message : Option Message) → IsServed s past → AreMade IsAnswer past
-      → IsEvent header event → BringsBytes event      → message ≡ message_of (net s past) event → IsPlace s Among message (place_of event)
+      → IsEvent header event → BringsBytes event → message ≡ message_of (net s past) event → IsPlace s Among message (place_of event)
   placed past (events.Call a call) message served made valid brings is = written call brings
   placed past (events.Give c) message served made below brings is = given_heard c message below (given_made IsAnswer s past c message served made is)
   placed past other message served made valid brings is = tt
 
   asked_is : (c : ℕ) (body : CloudRequest) → AreAmong (blocks_asked header.f c body) whole → IsAsked s Among c body
   asked_is c (requests.Put name body) h = h
-  asked_is c (requests.Get name limit) h = tt
-  asked_is c (requests.Delete name) h = tt
-  asked_is c (requests.List prefix) h = tt
+  asked_is c other h = tt
 
   sent_is : (sent : List Sent) → AreAmong (blocks_sent header.f sent) whole → Each (IsSent s Among) sent
   sent_is [] h = tt
@@ -129,3 +126,7 @@ module _ (header : Header) (whole : List (List ℕ)) (few : header.f ≤ 3) (apa
 pub sound_without_clash : SoundWithoutClash
 sound_without_clash header past ok served valid apart =
     (past_is_sound header (blocks header past) ok.f.1 apart past served valid (λ block there. there)).0
+
+pub runs_without_clash : RunsWithoutClash
+runs_without_clash header past ok happens served valid apart =
+    is_run (under header) past (sound_without_clash header past ok served valid apart) happens

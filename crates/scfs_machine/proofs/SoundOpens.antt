@@ -10,20 +10,20 @@ use Rattle.scfs_base.specs.declared.naming.RequestNo.{RequestNo}
 use Rattle.scfs_base.specs.declared.cloud.CloudAnswer.{CloudAnswer}
 use Rattle.scfs_base.specs.declared.cloud.CloudAnswer.TheVariants as answers
 use Rattle.scfs_unit.specs.declared.pieces.KeptPiece.{KeptPiece}
-use Rattle.scfs_machine.specs.Format.{Setup}
-use Rattle.scfs_machine.specs.Asked.{is_answer_to}
-use Rattle.scfs_machine.specs.Reading.{Reading, if_size, piece_in, is_good, is_awaited, with_piece, read_on, read_turn}
-use Rattle.scfs_machine.proofs.SoundLists.{each_append, Any, either}
-use Rattle.scfs_machine.proofs.SoundKept.{IsGood, IsFrom, AreGood, IsHeard, IsSession, IsVersion, IsOpening, IsAgent, IsReaction}
 use Rattle.scfs_session.specs.declared.sessions.Session.{Session}
 use Rattle.scfs_schedule.specs.declared.types.Src.{Src}
 use Rattle.scfs_schedule.specs.declared.types.Src.TheVariants as sources
+use Rattle.scfs_machine.specs.Format.{Setup}
+use Rattle.scfs_machine.specs.Layers.{Version, closes}
 use Rattle.scfs_machine.specs.Given.{Given}
-use Rattle.scfs_machine.specs.SessionSteps.{Sight}
+use Rattle.scfs_machine.specs.Asked.{is_answer_to}
 use Rattle.scfs_machine.specs.Next.{Next, Goes_on, Asks, Has, Gives_up}
+use Rattle.scfs_machine.specs.Reading.{Reading, if_size, piece_in, is_good, is_awaited, with_piece, read_on, read_turn}
+use Rattle.scfs_machine.specs.SessionSteps.{Sight}
 use Rattle.scfs_machine.specs.Agents.{Opening, Agent, Reaction}
 use Rattle.scfs_machine.specs.Opens.{Found, As_empty, On_clouds, found_version, found, opened, asks_gets, sighted, saw, gives_up, reads, tallied, takes, open_hears, open_turns}
-use Rattle.scfs_machine.specs.Layers.{Version, closes}
+use Rattle.scfs_machine.proofs.SoundLists.{each_append, Any, either}
+use Rattle.scfs_machine.proofs.SoundKept.{IsGood, IsFrom, AreGood, IsHeard, IsSession, IsVersion, IsOpening, IsAgent, IsReaction}
 use Rattle.scfs_machine.proofs.SoundCalls.{no_contents, opened_fits}
 
 sized_by : (b : Bool) (p piece : KeptPiece) → (if b then Some p else None) ≡ Some piece → Some p ≡ Some piece
@@ -61,7 +61,7 @@ both true false h = refl
 both false b h = absurd (true≢false (sym h))
 
 module _ (s : Setup) (Among : (c : ℕ) → (bytes : List ℕ) → Type 0) where
-  pub none_good : (root : Digest) → AreGood s Among root []
+  none_good : (root : Digest) → AreGood s Among root []
   none_good root = record { each = tt; different = λ i j d less inside. absurd (omega arith) }
 
   heard_from : (r : Reading) (c : ℕ) (answer : CloudAnswer) (piece : KeptPiece) → IsHeard s Among c answer → piece_in s r c answer ≡ Some piece
@@ -124,7 +124,7 @@ module _ (s : Setup) (Among : (c : ℕ) → (bytes : List ℕ) → Type 0) (a : 
         (either IsFound (sight.number == 0) As_empty (found_version sight.version) tt (found_is sight.version there))
 
     -- whatever becomes of it
-    pub reads_keep : (o : Opening Version) (next : Next (List ℕ)) → IsOpening s Among o → Is (reads s (closes s) a agent o next)
+    reads_keep : (o : Opening Version) (next : Next (List ℕ)) → IsOpening s Among o → Is (reads s (closes s) a agent o next)
     reads_keep o Goes_on h = ((h, is.1, is.2), tt)
     reads_keep o (Asks clouds) h = gets_keep o clouds h
     reads_keep o (Has bytes) h = opened_keeps o.session _ sources.Clouds h.version.fits

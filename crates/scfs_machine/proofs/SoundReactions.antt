@@ -7,21 +7,21 @@ use Rattle.scfs_base.specs.declared.cloud.CloudRequest.TheVariants as requests
 use Rattle.scfs_machine.specs.Lists.{below}
 use Rattle.scfs_machine.specs.Names.{upload_no, upload_name}
 use Rattle.scfs_machine.specs.Format.{Setup, clouds_of, sealed, object_at}
+use Rattle.scfs_machine.specs.Layers.{Version, closes}
+use Rattle.scfs_machine.specs.Given.{Given}
 use Rattle.scfs_machine.specs.Asked.{Asked, asked_of}
 use Rattle.scfs_machine.specs.Next.{Next, Goes_on, Asks, Has, Gives_up}
 use Rattle.scfs_machine.specs.Storing.{is_new_ack, with_ack, store_on, store_turn}
-use Rattle.scfs_machine.specs.Agents.{Upload, Closed, Agent, Reaction, Opening, Waiting, For_step, For_clouds, For_close, Input, Calls, Tells, Hears, Turns, silent}
-use Rattle.scfs_machine.specs.Closes.{with_storing, stores, upload_hears, upload_turns, begins}
-use Rattle.scfs_machine.specs.Layers.{Version, closes}
-use Rattle.scfs_machine.proofs.SoundLists.{Each, either, Any, each_append, each_behind}
-use Rattle.scfs_machine.proofs.SoundKept.{IsSession, IsUpload, IsAgent, IsReaction, IsSent, IsOpening, IsWaiting, IsClosed, IsRequest, IsSessionOutcome, IsOk, IsOutcome, IsInput}
-use Rattle.scfs_machine.specs.Given.{Given}
 use Rattle.scfs_machine.specs.Walks.{OrRefusal}
 use Rattle.scfs_machine.specs.SessionSteps.{Session_step, Open_read, Open_write, Commit, Session_outcome, Sees, Locks, Completes}
 use Rattle.scfs_machine.specs.Steps.{Outcome, Of_names, Of_locks, Of_sessions}
-use Rattle.scfs_machine.specs.Told.{is_pending, untold, told_open, told_commit, told_sessions, told}
+use Rattle.scfs_machine.specs.Agents.{Upload, Closed, Agent, Reaction, Opening, Waiting, For_clouds, Input, Calls, Tells, Hears, Turns, silent}
 use Rattle.scfs_machine.specs.Opens.{open_hears, open_turns}
+use Rattle.scfs_machine.specs.Closes.{with_storing, stores, upload_hears, upload_turns, begins}
+use Rattle.scfs_machine.specs.Told.{is_pending, untold, told_open, told_commit, told_sessions, told}
 use Rattle.scfs_machine.specs.Reactions.{idle, to_open, to_closed, to_upload, to_work, responded, begun, next_begun, reacted}
+use Rattle.scfs_machine.proofs.SoundLists.{Each, either, Any, each_append, each_behind}
+use Rattle.scfs_machine.proofs.SoundKept.{IsSession, IsUpload, IsAgent, IsReaction, IsSent, IsOpening, IsWaiting, IsClosed, IsRequest, IsSessionOutcome, IsOk, IsOutcome, IsInput}
 use Rattle.scfs_machine.proofs.SoundCalls.{call_keeps}
 use Rattle.scfs_machine.proofs.SoundOpens.{saw_keeps, turn_keeps, hears_keep}
 
@@ -48,17 +48,17 @@ module _ (s : Setup) (Among : (c : ℕ) → (bytes : List ℕ) → Type 0) (a : 
     stores_keep u (Has enough) h = ((is.0, is.1, ((fits, h), is.2)), (h, tt))
     stores_keep u (Gives_up acks) h = ((tt, is.1, is.2), (tt, tt))
 
-    pub upload_hears_keep : (u : Upload Version) (c : ℕ) (request : RequestNo) (answer : CloudAnswer) → IsUpload s Among u
+    upload_hears_keep : (u : Upload Version) (c : ℕ) (request : RequestNo) (answer : CloudAnswer) → IsUpload s Among u
         → Is (upload_hears s a agent x u c request answer)
     upload_hears_keep u c request answer h =
         either Is (is_new_ack u.storing c request answer) _ _
         (stores_keep (with_storing u (with_ack u.storing c)) (store_on s u.storing) h) (stores_keep u Goes_on h)
 
-    pub upload_turns_keep : (u : Upload Version) → IsUpload s Among u → Is (upload_turns s a agent x u)
+    upload_turns_keep : (u : Upload Version) → IsUpload s Among u → Is (upload_turns s a agent x u)
     upload_turns_keep u h = stores_keep (with_storing u (record u.storing { turns = u.storing.turns + 1 })) (store_turn s u.storing) h
 
     -- where its objects are among those looked at
-    pub begins_keep : Each (IsSent s Among) (begins s (closes s) a agent x).sent → Is (begins s (closes s) a agent x)
+    begins_keep : Each (IsSent s Among) (begins s (closes s) a agent x).sent → Is (begins s (closes s) a agent x)
     begins_keep sent =
         let no = upload_no a agent.incarnation (agent.uploads + 1) in
         let unit = sealed s no x.session.contents in
@@ -101,10 +101,8 @@ module _ (s : Setup) (Among : (c : ℕ) → (bytes : List ℕ) → Type 0) (a : 
       → IsUpload s Among u → Is (on_upload agent x u)) where
     first_keeps : (agent : Agent Version) (waiting : Option (Waiting Version)) → IsAgent s Among agent → IsWaiting s Among waiting
         → Is (to_open agent on_open waiting)
-    first_keeps agent None is k = (is, tt)
-    first_keeps agent (Some For_step) is k = (is, tt)
     first_keeps agent (Some (For_clouds o)) is k = open_is (idle agent) o (tt, is.1, is.2) k
-    first_keeps agent (Some For_close) is k = (is, tt)
+    first_keeps agent other is k = (is, tt)
 
     upload_keeps : (agent : Agent Version) (x : Closed Version) (rest : List (Closed Version)) (u : Option (Upload Version)) → IsAgent s Among agent
         → IsSession x.session → Each (IsClosed s Among) rest → Any (IsUpload s Among) u → Is (to_closed agent on_upload rest x u)
@@ -124,7 +122,8 @@ module _ (s : Setup) (Among : (c : ℕ) → (bytes : List ℕ) → Type 0) (a : 
         (second.0, each_append (IsRequest s Among) (to_open agent on_open agent.waiting).steps _ first.1 second.1)
 
   begun_keeps : (agent : Agent Version) (rest : List (Closed Version)) (x : Closed Version) (u : Option (Upload Version)) → IsAgent s Among agent
-      → IsSession x.session → Each (IsClosed s Among) rest → Each (IsSent s Among) (begun s (closes s) a agent rest x u).sent → Is (begun s (closes s) a agent rest x u)
+      → IsSession x.session → Each (IsClosed s Among) rest → Each (IsSent s Among) (begun s (closes s) a agent rest x u).sent
+      → Is (begun s (closes s) a agent rest x u)
   begun_keeps agent rest x None is fits k sent = begins_keep (record agent { closed = rest }) x (is.0, is.1, k) fits sent
   begun_keeps agent rest x (Some u) is fits k sent = (is, tt)
 

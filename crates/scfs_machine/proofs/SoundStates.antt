@@ -2,29 +2,29 @@
 use Rattle.std.proofs.Common.{◌≡◌, ℕ, ◌+◌, List, [], ◌∷◌, Option, Some, None, Ok, Err, slice_get, slice_set, ◌++◌, length, refl, subst, arith, Bool, true, false, length-append, eqb-true}
 use Rattle.std.specs.Prelude.{◌-◌, ◌==◌, if◌then◌else◌, option_to_list}
 use Rattle.scfs_base.specs.declared.naming.RequestNo.{RequestNo}
+use Rattle.scfs_base.specs.declared.cloud.CloudAnswer.{CloudAnswer}
+use Rattle.scfs_unit.specs.declared.pieces.KeptPiece.{KeptPiece}
 use Rattle.scfs_schedule.specs.declared.types.Line.{Line}
 use Rattle.scfs_schedule.specs.declared.types.Line.TheVariants as lines
-use Rattle.scfs_unit.specs.declared.pieces.KeptPiece.{KeptPiece}
 use Rattle.scfs_machine.specs.Format.{Setup, sealed}
-use Rattle.scfs_machine.specs.History.{Message, Of_request, Of_answer}
+use Rattle.scfs_machine.specs.History.{Message, Of_answer}
+use Rattle.scfs_machine.specs.Layers.{Version, closes}
 use Rattle.scfs_machine.specs.Given.{Given}
+use Rattle.scfs_machine.specs.Next.{Goes_on, Has}
+use Rattle.scfs_machine.specs.Reading.{piece_in, read_on}
 use Rattle.scfs_machine.specs.Tree.{Tree, live, session_lock, node_at}
 use Rattle.scfs_machine.specs.Walks.{OrRefusal, on_ok, file_at, free_file_at}
 use Rattle.scfs_machine.specs.SessionSteps.{Session_step, Open_read, Open_write, Commit, Session_outcome, Sees, Locks, Completes, session_outcome, session_after, still_held}
-use Rattle.scfs_machine.specs.Steps.{Step, On_names, On_locks, On_sessions, after_ok, served}
-use Rattle.scfs_machine.specs.Agents.{Request, Input, Calls, Tells, Hears, Turns, Opening, Waiting, For_step, For_clouds, For_close}
+use Rattle.scfs_machine.specs.Steps.{Step, On_sessions, after_ok, served}
+use Rattle.scfs_machine.specs.Agents.{Request, Input, Calls, Tells, Hears, Turns, Opening, Waiting, For_clouds}
 use Rattle.scfs_machine.specs.Reactions.{reacted}
 use Rattle.scfs_machine.specs.Events.{At_agent, Call_comes, Turn_comes, At_space, Step_served, Step_postponed, Reply_told, Request_answered, Answer_given, Message_moved, Place, Agent_has, Space_has, Cloud_has, Nowhere}
 use Rattle.scfs_machine.specs.States.{Reply, Seat, State, Effect, sum_of, leaving, at_seat, postpones, moves, answers_by, comes, serves, tells, gives, at_agent, at_space, at_place}
-use Rattle.scfs_machine.specs.Layers.{Version, closes}
+use Rattle.scfs_machine.specs.Sound.{FitsRead, FitsHeard, FitsAt, FitsGiven, FitsPlace, WasClosed}
 use Rattle.scfs_machine.proofs.SoundLists.{Each, each_append, each_set, each_get, each_find, each_moved, on_there, Any}
 use Rattle.scfs_machine.proofs.SoundKept.{IsVersion, IsStep, IsSessionStep, IsRequest, IsSessionOutcome, IsOk, IsOutcome, IsReply, IsSeat, IsState, IsInput, IsSent, IsBrought, IsGiven, IsPlace, AreGood, IsOpening, IsWaiting, IsHeard}
-use Rattle.scfs_machine.proofs.SoundReactions.{reacted_keeps}
-use Rattle.scfs_base.specs.declared.cloud.CloudAnswer.{CloudAnswer}
-use Rattle.scfs_machine.specs.Next.{Goes_on, Has}
-use Rattle.scfs_machine.specs.Reading.{piece_in, read_on}
-use Rattle.scfs_machine.specs.Sound.{FitsRead, FitsHeard, FitsAt, FitsGiven, FitsPlace, WasClosed}
 use Rattle.scfs_machine.proofs.SoundOpens.{heard_good}
+use Rattle.scfs_machine.proofs.SoundReactions.{reacted_keeps}
 
 module _ (s : Setup) (Among : (c : ℕ) → (bytes : List ℕ) → Type 0) where
   abbrev AreVersions : Tree Version → Type 0
@@ -53,11 +53,10 @@ module _ (s : Setup) (Among : (c : ℕ) → (bytes : List ℕ) → Type 0) where
 
   served_keeps : (tree : Tree Version) (now lease : ℕ) (request : RequestNo) (x : Step Version) → AreVersions tree → IsStep s Among x
       → IsOutcome s Among (served (closes s) tree now lease request x).outcome × AreVersions (served (closes s) tree now lease request x).tree
-  served_keeps tree now lease request (On_names x) k w = (tt, k)
-  served_keeps tree now lease request (On_locks x) k w = (tt, k)
   served_keeps tree now lease request (On_sessions x) k w =
       let r = outcome_keeps tree now (now + lease) request x k w in
       (r, after_keeps tree request (session_outcome (closes s) tree now (now + lease) request x) k r)
+  served_keeps tree now lease request other k w = (tt, k)
 
   -- an event that leaves all so, where the objects that are put in it are among those looked at
   abbrev pub Keeps : Effect Version → Type 0
@@ -89,9 +88,8 @@ module _ (s : Setup) (Among : (c : ℕ) → (bytes : List ℕ) → Type 0) where
     moves_keep (Some m) sent = is
 
     answers_keep : (c : ℕ) (m : Option Message) → Keeps (answers_by s state c m)
-    answers_keep c None sent = is
-    answers_keep c (Some (Of_request request)) sent = is
     answers_keep c (Some (Of_answer request answer)) sent = is
+    answers_keep c other sent = is
 
     module _ (given : Given) where
       comes_keep : (a : ℕ) (before : List Line) (input : Input Version) (seat : Seat Version) → IsInput s Among input → IsSeat s Among seat
@@ -108,11 +106,10 @@ module _ (s : Setup) (Among : (c : ℕ) → (bytes : List ℕ) → Type 0) where
           comes_keep a [] (Tells oldest.number oldest.outcome) (record seat { replied = rest }) k.0 (h.0, h.1, k.1)
 
       gives_keep : (c : ℕ) (m : Option Message) → IsGiven s Among c m → Keeps (gives s (closes s) state given c m)
-      gives_keep c None k = λ sent. is
-      gives_keep c (Some (Of_request request)) k = λ sent. is
       gives_keep c (Some (Of_answer request answer)) k =
           at_seat_keeps request.agent _ (λ seat h.
           comes_keep request.agent (lines.Gave c request (sum_of s answer) ∷ []) (Hears c request answer) seat k h)
+      gives_keep c other k = λ sent. is
 
       agent_keeps : (a : ℕ) (x : At_agent) (seat : Seat Version) → IsBrought x → IsSeat s Among seat
           → Keeps (at_agent s (closes s) state given a x seat)
@@ -155,11 +152,9 @@ module _ (s : Setup) (Among : (c : ℕ) → (bytes : List ℕ) → Type 0) (give
 
   heard_fits : (c : ℕ) (request : RequestNo) (answer : CloudAnswer) (waiting : Option (Waiting Version)) → IsHeard s Among c answer
       → IsWaiting s Among waiting → FitsHeard s WasClosed c request answer waiting
-  heard_fits c request answer None heard h = tt
-  heard_fits c request answer (Some For_step) heard h = tt
   heard_fits c request answer (Some (For_clouds o)) heard h =
       λ counts. read_fits o (piece_in s o.reading c answer) h (heard_good s Among o.reading c request answer h.good heard counts)
-  heard_fits c request answer (Some For_close) heard h = tt
+  heard_fits c request answer other heard h = tt
 
   at_fits : (c : ℕ) (request : RequestNo) (answer : CloudAnswer) (there : Option (Seat Version)) → IsHeard s Among c answer
       → Any (IsSeat s Among) there → FitsAt s WasClosed c request answer there
@@ -168,15 +163,10 @@ module _ (s : Setup) (Among : (c : ℕ) → (bytes : List ℕ) → Type 0) (give
 
   module _ (state : State Version) (is : IsState s Among state) where
     given_fits : (c : ℕ) (m : Option Message) → IsGiven s Among c m → FitsGiven s WasClosed state c m
-    given_fits c None k = tt
-    given_fits c (Some (Of_request request)) k = tt
     given_fits c (Some (Of_answer request answer)) k =
         at_fits c request answer (slice_get state.seats request.agent) k (each_get (IsSeat s Among) state.seats request.agent is.1)
+    given_fits c other k = tt
 
     pub place_fits : (m : Option Message) (place : Place) → IsPlace s Among m place → FitsPlace s WasClosed state m place
-    place_fits m (Agent_has a x) k = tt
-    place_fits m (Space_has a x) k = tt
-    place_fits m (Cloud_has c Request_answered) k = tt
     place_fits m (Cloud_has c Answer_given) k = given_fits c m k
-    place_fits m (Cloud_has c Message_moved) k = tt
-    place_fits m Nowhere k = tt
+    place_fits m other k = tt

@@ -10,7 +10,6 @@ use Rattle.std.proofs.lemmas.Slice.Eq.{bytes_eq-Decides}
 use Rattle.sha2.specs.Sha256.{sha256}
 use Rattle.scfs_base.specs.declared.naming.Digest.{Digest}
 use Rattle.scfs_base.specs.declared.cloud.CloudAnswer.TheVariants as answers
-use Rattle.scfs_schedule.specs.declared.types.Header.{Header}
 use Rattle.scfs_digest.specs.Texts.{root_text, block_text, draw_text}
 use Rattle.scfs_shamir.specs.Recovery.{IsRow}
 use Rattle.scfs_stream.specs.Stream.{stream_part, stream_byte, stream_word}
@@ -24,6 +23,7 @@ use Rattle.scfs_unit.specs.Clash.{blocks_of_answer, NoClash}
 use Rattle.scfs_unit.proofs.CheckingLemmas.{checked-passed}
 use Rattle.scfs_unit.proofs.AcceptanceLemmas.{checked-object, IsPiece-checked}
 use Rattle.scfs_unit.proofs.UnsealLemmas.{unseal-some}
+use Rattle.scfs_schedule.specs.declared.types.Header.{Header}
 use Rattle.scfs_machine.specs.Lists.{if_some}
 use Rattle.scfs_machine.specs.Format.{Setup, clouds_of, seed_of, object_at}
 use Rattle.scfs_machine.specs.Format as format

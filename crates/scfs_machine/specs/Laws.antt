@@ -10,8 +10,9 @@ use Rattle.scfs_schedule.specs.declared.types.Event.TheVariants as events
 use Rattle.scfs_schedule.specs.declared.types.Header.{Header}
 use Rattle.scfs_machine.specs.Names.{same_file}
 use Rattle.scfs_machine.specs.UnitFormat.{under}
-use Rattle.scfs_machine.specs.History.{History}
+use Rattle.scfs_machine.specs.History.{Entry, History}
 use Rattle.scfs_machine.specs.Tree.{Node}
+use Rattle.scfs_machine.specs.Runs.{Happens, Run}
 use Rattle.scfs_machine.specs.Clouds.{IsServed}
 use Rattle.scfs_machine.specs.Blocks.{NoClash}
 use Rattle.scfs_machine.specs.Sound.{IsSound}
@@ -36,6 +37,16 @@ abbrev pub SoundWithoutClash : Type 0
 SoundWithoutClash =
     (header : Header) (past : History) → IsHeader header → IsServed (under header) past → AreEvents header past → NoClash header past
     → IsSound (under header) past
+
+-- and what happens is what the file map demands
+abbrev pub RunsWithoutClash : Type 0
+RunsWithoutClash =
+    (header : Header) (past : History) → IsHeader header → Happens (under header) past → IsServed (under header) past → AreEvents header past
+    → NoClash header past → Run (under header) past
+
+-- where no two different blocks of a history share a digest, none of it without its newest event do
+abbrev pub NoClashBefore : Type 0
+NoClashBefore = (header : Header) (e : Entry) (past : History) → NoClash header (e ∷ past) → NoClash header past
 
 -- whether a node has this name below this parent
 abbrev pub has_place : FileId → (name : List ℕ) → Node → Bool
