@@ -1,7 +1,7 @@
 -- The limits of the system, each once, as a number.
 use Rattle.std.specs.Prelude.{ℕ}
 
--- what is carried between agents and clouds at once, in bytes
+-- what requests to clouds and their answers carry in one run, in bytes
 abbrev pub carried_limit : ℕ
 carried_limit = 536870912
 
@@ -29,7 +29,7 @@ contents_limit = 65536
 abbrev pub unit_limit : ℕ
 unit_limit = 1048576
 
--- how many sessions an agent holds open at once
+-- how many sessions of an agent are open, or closed and not completed, at once
 abbrev pub handles_limit : ℕ
 handles_limit = 64
 
@@ -37,6 +37,6 @@ handles_limit = 64
 abbrev pub turns_limit : ℕ
 turns_limit = 8
 
--- how many names a cloud answers at once
+-- how many names a cloud gives in one answer
 abbrev pub names_limit : ℕ
 names_limit = 16

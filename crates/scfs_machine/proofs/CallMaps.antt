@@ -7,7 +7,7 @@ use Rattle.scfs_schedule.specs.declared.types.Refusal.{Refusal}
 use Rattle.scfs_schedule.specs.declared.types.Refusal.TheVariants as refusals
 use Rattle.scfs_session.specs.declared.sessions.Session.{Session}
 use Rattle.scfs_session.specs.Open.{session_of, ended, read_answer, after_write, after_truncate}
-use Rattle.scfs_machine.specs.Limits.{handles_limit}
+use Rattle.scfs_base.specs.Limits.{handles_limit}
 use Rattle.scfs_machine.specs.Names.{file_id}
 use Rattle.scfs_machine.specs.Format.{Setup}
 use Rattle.scfs_machine.specs.NameSteps.{Make, Look}

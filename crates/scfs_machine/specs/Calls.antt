@@ -5,7 +5,7 @@ use Rattle.scfs_schedule.specs.declared.types.Refusal.{Refusal}
 use Rattle.scfs_schedule.specs.declared.types.Refusal.TheVariants as refusals
 use Rattle.scfs_session.specs.declared.sessions.Session.{Session}
 use Rattle.scfs_session.specs.Open.{session_of, ended, read_answer, after_write, after_truncate, sessions_after}
-use Rattle.scfs_machine.specs.Limits.{handles_limit}
+use Rattle.scfs_base.specs.Limits.{handles_limit}
 use Rattle.scfs_machine.specs.Lists.{if_some}
 use Rattle.scfs_machine.specs.Names.{file_id}
 use Rattle.scfs_machine.specs.Paths.{names_of}

@@ -7,7 +7,7 @@ use Rattle.scfs_machine.specs.Lists.{is_in, below, put_by_number}
 use Rattle.scfs_machine.specs.Format.{Setup, clouds_of, enough}
 use Rattle.scfs_machine.specs.Asked.{Asked, is_answer_to}
 use Rattle.scfs_machine.specs.Next.{Next, Goes_on, Asks, Has, Gives_up}
-use Rattle.scfs_machine.specs.Limits.{turns_limit}
+use Rattle.scfs_base.specs.Limits.{turns_limit}
 
 -- how far the objects of a sealed unit, one a cloud, are stored under a name: their Puts so far, the clouds that acknowledged one by
 -- number, and how many turns came since it began
