@@ -1,4 +1,4 @@
--- A call keeps what holds of an agent's versions and sessions: contents stay bytes, at most 65,536, through each change that is allowed.
+-- A call keeps what holds of an agent's versions and sessions: contents stay bytes, not above their limit, through each change that is allowed.
 use Rattle.std.proofs.Common.{◌≡◌, ℕ, ◌+◌, ◌-◌, ◌<◌, ◌≤◌, List, [], ◌∷◌, ◌++◌, length, take, drop, replicate, refl, arith, Option, Some, None, Result, Ok, Err, Bool, true, false, cond, nat_lt, ltb-false, IfSome, length-append, length-drop, length-take}
 use Rattle.std.specs.List.{All}
 use Rattle.std.specs.Map.{values_of}
@@ -7,9 +7,8 @@ use Rattle.std.specs.Ordering.{nat_cmp}
 use Rattle.std.proofs.lemmas.List.{length-replicate}
 use Rattle.std.proofs.lemmas.List.Elements.{All-nil, All-append, All-take, All-drop, All-replicate}
 use Rattle.std.proofs.lemmas.Map.Views.{IfSome-lookup_from_All, All-values-insert_entry, All-values-set_value, All-map-remove_entry}
-use Rattle.scfs_base.specs.Limits.{handles_limit}
+use Rattle.scfs_base.specs.Limits.{contents_limit, handles_limit}
 use Rattle.scfs_session.specs.declared.sessions.Session.{Session}
-use Rattle.scfs_session.specs.declared.contents.TheConstants.{CONTENTS_LIMIT}
 use Rattle.scfs_session.specs.Contents.{resized, written}
 use Rattle.scfs_session.specs.Open.{OpenSessions, session_of, opened, ended, change_refusal, unless, changed, after_write, after_truncate, sessions_after, read_answer}
 use Rattle.scfs_schedule.specs.declared.types.Refusal.{Refusal}
@@ -35,11 +34,11 @@ bytes_resized contents size h =
 length-resized : (contents : List ℕ) (size : ℕ) → length (resized contents size) ≡ size
 length-resized contents size = simp (length-append, length-take, length-replicate) (omega arith)
 
-resized_fits : (contents : List ℕ) (size : ℕ) → IsContents contents → size ≤ 65536 → IsContents (resized contents size)
+resized_fits : (contents : List ℕ) (size : ℕ) → IsContents contents → size ≤ contents_limit → IsContents (resized contents size)
 resized_fits contents size h within =
     record { are_bytes = bytes_resized contents size h.are_bytes; small = omega (arith, length-resized contents size) }
 
-written_fits : (contents : List ℕ) (offset : ℕ) (new : List ℕ) → AreBytes new → IsContents contents → offset + length new ≤ 65536
+written_fits : (contents : List ℕ) (offset : ℕ) (new : List ℕ) → AreBytes new → IsContents contents → offset + length new ≤ contents_limit
     → IsContents (written contents offset new)
 written_fits contents offset [] bytes h within = h
 written_fits contents offset (x ∷ xs) bytes h within =
@@ -70,11 +69,11 @@ allowed_by true false h = refl
 allowed_by false long h = cc
 
 changed_fits : (there : Option Session) (end : ℕ) (change : List ℕ → List ℕ) → IfSome there IsSession
-    → ((contents : List ℕ) → IsContents contents → end ≤ 65536 → IsContents (change contents)) → IsChanged (changed there end change)
+    → ((contents : List ℕ) → IsContents contents → end ≤ contents_limit → IsContents (change contents)) → IsChanged (changed there end change)
 changed_fits None end change fits each = tt
 changed_fits (Some y) end change fits each =
     unless_fits (change_refusal y end) (record y { contents = change y.contents }) (λ none.
-    each y.contents fits (ltb-false CONTENTS_LIMIT end (allowed_by y.writes (nat_lt CONTENTS_LIMIT end) none)))
+    each y.contents fits (ltb-false contents_limit end (allowed_by y.writes (nat_lt contents_limit end) none)))
 
 -- open sessions whose contents fit
 abbrev pub AreSessions : OpenSessions → Type 0

@@ -2,6 +2,7 @@
 use Rattle.std.specs.Prelude.{◌≡◌, ℕ, ◌<◌, ◌≤◌, ◌≢◌, List, length, map, Option, Some, Ok, Err}
 use Rattle.std.specs.List.{All, AllPairs}
 use Rattle.std.specs.Map.{values_of}
+use Rattle.scfs_base.specs.Limits.{contents_limit}
 use Rattle.scfs_base.specs.declared.naming.Digest.{Digest}
 use Rattle.scfs_base.specs.declared.naming.UploadNo.{UploadNo}
 use Rattle.scfs_base.specs.declared.cloud.CloudAnswer.{CloudAnswer}
@@ -29,7 +30,7 @@ AreBytes bytes = All (λ b. b < 256) bytes
 -- contents that a session may have
 pub record IsContents (contents : List ℕ) : Type 0 where
   pub are_bytes : AreBytes contents
-  pub small : length contents ≤ 65536
+  pub small : length contents ≤ contents_limit
 
 abbrev pub IsSession : Session → Type 0
 IsSession y = IsContents y.contents
