@@ -1,5 +1,5 @@
 -- What holds of the versions, pieces and contents in every part of the file map, where the objects of each upload are among those looked at.
-use Rattle.std.specs.Prelude.{◌≡◌, ℕ, ◌<◌, ◌≤◌, ◌≢◌, List, length, map, Option, Some, Ok, Err}
+use Rattle.std.specs.Prelude.{◌≡◌, ℕ, ◌<◌, ◌≤◌, ◌≢◌, List, length, map, Option, Some, Ok, Err, IfSome}
 use Rattle.std.specs.List.{All, AllPairs}
 use Rattle.std.specs.Map.{values_of}
 use Rattle.scfs_base.specs.Limits.{contents_limit}
@@ -22,7 +22,7 @@ use Rattle.scfs_machine.specs.Steps.{Step, On_sessions, Outcome, Of_sessions}
 use Rattle.scfs_machine.specs.Agents.{Opening, Waiting, For_clouds, Upload, Closed, Request, Agent, Input, Calls, Tells, Hears, Turns, Sent, Reaction}
 use Rattle.scfs_machine.specs.Events.{At_agent, Call_comes, Turn_comes, Answer_given, Place, Agent_has, Cloud_has}
 use Rattle.scfs_machine.specs.States.{Reply, Seat, State}
-use Rattle.scfs_machine.proofs.SoundLists.{Each, Any}
+use Rattle.scfs_machine.proofs.SoundLists.{Each}
 
 abbrev pub AreBytes : List ℕ → Type 0
 AreBytes bytes = All (λ b. b < 256) bytes
@@ -86,7 +86,7 @@ module _ (s : Setup) (Among : (c : ℕ) → (bytes : List ℕ) → Type 0) where
   IsUpload u = IsVersion u.version
 
   abbrev pub IsClosed : Closed Version → Type 0
-  IsClosed x = IsSession x.session × Any IsUpload x.upload
+  IsClosed x = IsSession x.session × IfSome x.upload IsUpload
 
   abbrev pub IsSessionStep : Session_step Version → Type 0
   IsSessionStep (Commit h v) = IsVersion v
@@ -100,8 +100,8 @@ module _ (s : Setup) (Among : (c : ℕ) → (bytes : List ℕ) → Type 0) where
   IsRequest r = IsStep r.step
 
   abbrev pub IsSessionOutcome : Session_outcome Version → Type 0
-  IsSessionOutcome (Sees sight) = Any IsVersion sight.version
-  IsSessionOutcome (Locks sight l) = Any IsVersion sight.version
+  IsSessionOutcome (Sees sight) = IfSome sight.version IsVersion
+  IsSessionOutcome (Locks sight l) = IfSome sight.version IsVersion
   IsSessionOutcome (Completes h v n) = IsVersion v
 
   abbrev pub IsOk : {X : Type 0} → (X → Type 0) → OrRefusal X → Type 0

@@ -1,5 +1,5 @@
 -- A fact of each item of a list, by recursion on the list.
-use Rattle.std.proofs.Common.{ℕ, zero, suc, List, [], ◌∷◌, ◌++◌, replicate, arith, Option, Some, None, Bool, true, false, slice_get, slice_set, if◌then◌else◌}
+use Rattle.std.proofs.Common.{ℕ, zero, suc, List, [], ◌∷◌, ◌++◌, replicate, arith, Option, Some, None, Bool, true, false, slice_get, slice_set, if◌then◌else◌, IfSome}
 use Rattle.std.specs.Prelude.{find}
 use Rattle.std.specs.List.{All}
 use Rattle.scfs_machine.specs.Lists.{if_some, moved_back}
@@ -8,11 +8,6 @@ module _ {X : Type 0} where
   abbrev pub Each : (X → Type 0) → List X → Type 0
   Each P [] = Unit {0}
   Each P (x ∷ xs) = P x × Each P xs
-
-  -- a fact of what is there, where something is
-  abbrev pub Any : (X → Type 0) → Option X → Type 0
-  Any P None = Unit {0}
-  Any P (Some x) = P x
 
 module _ {X : Type 0} (P : X → Type 0) where
   pub each_append : (xs ys : List X) → Each P xs → Each P ys → Each P (xs ++ ys)
@@ -28,16 +23,16 @@ module _ {X : Type 0} (P : X → Type 0) where
   each_set (y ∷ xs) zero x h k = (k, h.1)
   each_set (y ∷ xs) (suc i) x h k = (h.0, each_set xs i x h.1 k)
 
-  pub each_get : (xs : List X) (i : ℕ) → Each P xs → Any P (slice_get xs i)
+  pub each_get : (xs : List X) (i : ℕ) → Each P xs → IfSome (slice_get xs i) P
   each_get [] i h = tt
   each_get (x ∷ xs) zero h = h.0
   each_get (x ∷ xs) (suc i) h = each_get xs i h.1
 
-  any_if : (b : Bool) (x : X) (rest : Option X) → P x → Any P rest → Any P (if b then Some x else rest)
+  any_if : (b : Bool) (x : X) (rest : Option X) → P x → IfSome rest P → IfSome (if b then Some x else rest) P
   any_if true x rest h k = h
   any_if false x rest h k = k
 
-  pub each_find : (test : X → Bool) (xs : List X) → Each P xs → Any P (find test xs)
+  pub each_find : (test : X → Bool) (xs : List X) → Each P xs → IfSome (find test xs) P
   each_find test [] h = tt
   each_find test (x ∷ xs) h = any_if (test x) x (find test xs) h.0 (each_find test xs h.1)
 
@@ -55,7 +50,7 @@ module _ {X : Type 0} (P : X → Type 0) where
   all_of_each (x ∷ xs) h (suc k) d less = all_of_each xs h.1 k d (omega arith)
 
 -- on with what is there
-pub on_there : {X A : Type 0} (P : X → Type 0) (Q : A → Type 0) (there : Option X) (other : A) (on : X → A) → Any P there → Q other
+pub on_there : {X A : Type 0} (P : X → Type 0) (Q : A → Type 0) (there : Option X) (other : A) (on : X → A) → IfSome there P → Q other
     → ((x : X) → P x → Q (on x)) → Q (if_some there other on)
 on_there P Q None other on h none each = none
 on_there P Q (Some x) other on h none each = each x h

@@ -1,5 +1,5 @@
 -- An open, from its sight to its session, keeps what holds of an agent's versions and sessions: its pieces stay good ones of different clouds.
-use Rattle.std.proofs.Common.{◌≡◌, ◌≢◌, arith, ℕ, List, [], ◌∷◌, ◌++◌, map, refl, sym, ◌∙◌, subst, Option, Some, None, Bool, true, false, not, ◌&&◌, ◌||◌, true≢false, append-nil, eq-eqb, ◌+◌}
+use Rattle.std.proofs.Common.{◌≡◌, ◌≢◌, arith, ℕ, List, [], ◌∷◌, ◌++◌, map, refl, sym, ◌∙◌, subst, Option, Some, None, Bool, true, false, not, ◌&&◌, ◌||◌, true≢false, append-nil, eq-eqb, ◌+◌, IfSome}
 use Rattle.std.specs.Prelude.{◌==◌, if◌then◌else◌, option_to_list, is_some}
 use Rattle.std.specs.List.{All, AllPairs, list_any}
 use Rattle.std.proofs.lemmas.List.{map-append}
@@ -22,7 +22,7 @@ use Rattle.scfs_machine.specs.Reading.{Reading, if_size, piece_in, is_good, is_a
 use Rattle.scfs_machine.specs.SessionSteps.{Sight}
 use Rattle.scfs_machine.specs.Agents.{Opening, Agent, Reaction}
 use Rattle.scfs_machine.specs.Opens.{Found, As_empty, On_clouds, found_version, found, opened, asks_gets, sighted, saw, gives_up, reads, tallied, takes, open_hears, open_turns}
-use Rattle.scfs_machine.proofs.SoundLists.{each_append, Any, either}
+use Rattle.scfs_machine.proofs.SoundLists.{each_append, either}
 use Rattle.scfs_machine.proofs.SoundKept.{IsGood, IsFrom, AreGood, IsHeard, IsSession, IsVersion, IsOpening, IsAgent, IsReaction}
 use Rattle.scfs_machine.proofs.SoundCalls.{no_contents, opened_fits}
 
@@ -100,7 +100,7 @@ module _ (s : Setup) (Among : (c : ℕ) → (bytes : List ℕ) → Type 0) (a : 
   IsFound As_empty = Unit {0}
   IsFound (On_clouds v) = IsVersion s Among v
 
-  found_is : (v : Option Version) → Any (IsVersion s Among) v → IsFound (found_version v)
+  found_is : (v : Option Version) → IfSome v (IsVersion s Among) → IsFound (found_version v)
   found_is None h = tt
   found_is (Some v) h = h
 
@@ -117,7 +117,7 @@ module _ (s : Setup) (Among : (c : ℕ) → (bytes : List ℕ) → Type 0) (a : 
     sighted_keeps given h writes sight (On_clouds v) is_there =
         ((record { version = is_there; rooted = refl; good = none_good s Among _ }, is.1, is.2), tt)
 
-    pub saw_keeps : (given : Given) (request : RequestNo) (h : ℕ) (writes : Bool) (sight : Sight Version) → Any (IsVersion s Among) sight.version
+    pub saw_keeps : (given : Given) (request : RequestNo) (h : ℕ) (writes : Bool) (sight : Sight Version) → IfSome sight.version (IsVersion s Among)
         → Is (saw s (closes s) a agent given request h writes sight)
     saw_keeps given request h writes sight there =
         sighted_keeps given h writes sight (found sight)

@@ -1,5 +1,5 @@
 -- What an agent does on an input keeps what holds of its versions and sessions: what it seals is put.
-use Rattle.std.proofs.Common.{ℕ, zero, suc, ◌+◌, ◌<◌, List, map, subst, arith, eq-or-lt_of_le, inl, inr, ◌≤◌, [], ◌∷◌, Option, Some, None, true, false, Ok, Err}
+use Rattle.std.proofs.Common.{ℕ, zero, suc, ◌+◌, ◌<◌, List, map, subst, arith, eq-or-lt_of_le, inl, inr, ◌≤◌, [], ◌∷◌, Option, Some, None, true, false, Ok, Err, IfSome}
 use Rattle.std.specs.List.{range_with_len}
 use Rattle.scfs_base.specs.declared.naming.RequestNo.{RequestNo}
 use Rattle.scfs_base.specs.declared.cloud.CloudAnswer.{CloudAnswer}
@@ -20,7 +20,7 @@ use Rattle.scfs_machine.specs.Opens.{open_hears, open_turns}
 use Rattle.scfs_machine.specs.Closes.{with_storing, stores, upload_hears, upload_turns, begins}
 use Rattle.scfs_machine.specs.Told.{is_pending, untold, told_open, told_commit, told_sessions, told}
 use Rattle.scfs_machine.specs.Reactions.{idle, to_open, to_closed, to_upload, to_work, responded, begun, next_begun, reacted}
-use Rattle.scfs_machine.proofs.SoundLists.{Each, either, Any, each_append, each_behind}
+use Rattle.scfs_machine.proofs.SoundLists.{Each, either, each_append, each_behind}
 use Rattle.scfs_machine.proofs.SoundKept.{IsSession, IsUpload, IsAgent, IsReaction, IsSent, IsOpening, IsWaiting, IsClosed, IsRequest, IsSessionOutcome, IsOk, IsOutcome, IsInput}
 use Rattle.scfs_machine.proofs.SoundCalls.{call_keeps}
 use Rattle.scfs_machine.proofs.SoundOpens.{saw_keeps, turn_keeps, hears_keep}
@@ -105,7 +105,7 @@ module _ (s : Setup) (Among : (c : ℕ) → (bytes : List ℕ) → Type 0) (a : 
     first_keeps agent other is k = (is, tt)
 
     upload_keeps : (agent : Agent Version) (x : Closed Version) (rest : List (Closed Version)) (u : Option (Upload Version)) → IsAgent s Among agent
-        → IsSession x.session → Each (IsClosed s Among) rest → Any (IsUpload s Among) u → Is (to_closed agent on_upload rest x u)
+        → IsSession x.session → Each (IsClosed s Among) rest → IfSome u (IsUpload s Among) → Is (to_closed agent on_upload rest x u)
     upload_keeps agent x rest None is fits k h = (is, tt)
     upload_keeps agent x rest (Some u) is fits k h = upload_is (record agent { closed = rest }) x u (is.0, is.1, k) fits h
 

@@ -1,5 +1,5 @@
 -- An event keeps what holds of the file map, and what it gives an open is what was closed.
-use Rattle.std.proofs.Common.{◌≡◌, ℕ, ◌+◌, List, [], ◌∷◌, Option, Some, None, Ok, Err, slice_get, slice_set, ◌++◌, length, refl, subst, arith, Bool, true, false, length-append, eqb-true}
+use Rattle.std.proofs.Common.{◌≡◌, ℕ, ◌+◌, List, [], ◌∷◌, Option, Some, None, Ok, Err, slice_get, slice_set, ◌++◌, length, refl, subst, arith, Bool, true, false, length-append, eqb-true, IfSome}
 use Rattle.std.specs.Prelude.{◌-◌, ◌==◌, if◌then◌else◌, option_to_list}
 use Rattle.scfs_base.specs.declared.naming.RequestNo.{RequestNo}
 use Rattle.scfs_base.specs.declared.cloud.CloudAnswer.{CloudAnswer}
@@ -21,7 +21,7 @@ use Rattle.scfs_machine.specs.Reactions.{reacted}
 use Rattle.scfs_machine.specs.Events.{At_agent, Call_comes, Turn_comes, At_space, Step_served, Step_postponed, Reply_told, Request_answered, Answer_given, Message_moved, Place, Agent_has, Space_has, Cloud_has, Nowhere}
 use Rattle.scfs_machine.specs.States.{Reply, Seat, State, Effect, sum_of, leaving, at_seat, postpones, moves, answers_by, comes, serves, tells, gives, at_agent, at_space, at_place}
 use Rattle.scfs_machine.specs.Sound.{FitsRead, FitsHeard, FitsAt, FitsGiven, FitsPlace, WasClosed}
-use Rattle.scfs_machine.proofs.SoundLists.{Each, each_append, each_set, each_get, each_find, each_moved, on_there, Any}
+use Rattle.scfs_machine.proofs.SoundLists.{Each, each_append, each_set, each_get, each_find, each_moved, on_there}
 use Rattle.scfs_machine.proofs.SoundKept.{IsVersion, IsStep, IsSessionStep, IsRequest, IsSessionOutcome, IsOk, IsOutcome, IsReply, IsSeat, IsState, IsInput, IsSent, IsBrought, IsGiven, IsPlace, AreGood, IsOpening, IsWaiting, IsHeard}
 use Rattle.scfs_machine.proofs.SoundOpens.{heard_good}
 use Rattle.scfs_machine.proofs.SoundReactions.{reacted_keeps}
@@ -157,7 +157,7 @@ module _ (s : Setup) (Among : (c : ℕ) → (bytes : List ℕ) → Type 0) (give
   heard_fits c request answer other heard h = tt
 
   at_fits : (c : ℕ) (request : RequestNo) (answer : CloudAnswer) (there : Option (Seat Version)) → IsHeard s Among c answer
-      → Any (IsSeat s Among) there → FitsAt s WasClosed c request answer there
+      → IfSome there (IsSeat s Among) → FitsAt s WasClosed c request answer there
   at_fits c request answer None heard h = tt
   at_fits c request answer (Some seat) heard h = heard_fits c request answer seat.agent.waiting heard h.0.0
 
