@@ -5,6 +5,15 @@ mod SharedFile
 mod LyingClouds
 mod Closes
 mod LocalCalls
+pub mod SoundLists
+pub mod SoundKept
+pub mod SoundCalls
+pub mod SoundOpens
+pub mod SoundReactions
+pub mod SoundStates
+pub mod SoundAnswers
+pub mod SoundUnit
+pub mod SoundLaw
 pub mod ListMaps
 pub mod AgentMaps
 pub mod OpenMaps

@@ -1,4 +1,4 @@
-use Rattle.std.specs.Prelude.{◌≡◌, ◌≤◌, ℕ, List, [], ◌∷◌, length, find, Bool, ◌&&◌, ◌==◌, if◌then◌else◌, None, Contains}
+use Rattle.std.specs.Prelude.{◌≡◌, ℕ, List, [], ◌∷◌, find, Bool, ◌&&◌, None}
 use Rattle.std.specs.Str.{bytes_eq}
 use Rattle.scfs_base.specs.declared.naming.FileId.{FileId}
 use Rattle.scfs_gf256.specs.Polynomials.{AreBytes}
@@ -9,11 +9,10 @@ use Rattle.scfs_schedule.specs.declared.types.Event.{Event}
 use Rattle.scfs_schedule.specs.declared.types.Event.TheVariants as events
 use Rattle.scfs_schedule.specs.declared.types.Header.{Header}
 use Rattle.scfs_machine.specs.Names.{same_file}
-use Rattle.scfs_machine.specs.Format.{Setup}
 use Rattle.scfs_machine.specs.UnitFormat.{under}
 use Rattle.scfs_machine.specs.History.{Entry, History}
 use Rattle.scfs_machine.specs.Tree.{Node}
-use Rattle.scfs_machine.specs.Runs.{mapped, Happens, Run}
+use Rattle.scfs_machine.specs.Runs.{Happens, Run}
 use Rattle.scfs_machine.specs.Clouds.{IsServed}
 use Rattle.scfs_machine.specs.Blocks.{NoClash}
 use Rattle.scfs_machine.specs.Sound.{IsSound}
@@ -38,6 +37,16 @@ abbrev pub SoundWithoutClash : Type 0
 SoundWithoutClash =
     (header : Header) (past : History) → IsHeader header → IsServed (under header) past → AreEvents header past → NoClash header past
     → IsSound (under header) past
+
+-- and what happens is what the file map demands
+abbrev pub RunsWithoutClash : Type 0
+RunsWithoutClash =
+    (header : Header) (past : History) → IsHeader header → Happens (under header) past → IsServed (under header) past → AreEvents header past
+    → NoClash header past → Run (under header) past
+
+-- where no two different blocks of a history share a digest, none of it without its newest event do
+abbrev pub NoClashBefore : Type 0
+NoClashBefore = (header : Header) (e : Entry) (past : History) → NoClash header (e ∷ past) → NoClash header past
 
 -- whether a node has this name below this parent
 abbrev pub has_place : FileId → (name : List ℕ) → Node → Bool
