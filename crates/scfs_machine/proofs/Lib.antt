@@ -5,3 +5,5 @@ mod SharedFile
 mod LyingClouds
 mod Closes
 mod LocalCalls
+mod NewestLists
+mod NewestDraws

@@ -34,4 +34,5 @@ pub mod Held
 pub mod Mapped
 pub mod Sound
 pub mod Blocks
+pub mod Newest
 pub mod Laws
