@@ -7,3 +7,4 @@ mod Closes
 mod LocalCalls
 mod NewestLists
 mod NewestDraws
+mod NewestKept
