@@ -8,3 +8,5 @@ mod LocalCalls
 mod NewestLists
 mod NewestDraws
 mod NewestKept
+mod NewestSteady
+mod NewestWalk
