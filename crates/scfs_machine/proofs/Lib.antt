@@ -10,3 +10,5 @@ mod NewestDraws
 mod NewestKept
 mod NewestSteady
 mod NewestWalk
+mod NamesWalks
+mod NamesEvents

@@ -35,4 +35,5 @@ pub mod Mapped
 pub mod Sound
 pub mod Blocks
 pub mod Newest
+pub mod NamesDiffer
 pub mod Laws
