@@ -12,3 +12,4 @@ mod NewestSteady
 mod NewestWalk
 mod NamesWalks
 mod NamesEvents
+mod NamesSteps
