@@ -13,3 +13,5 @@ mod NewestWalk
 mod NamesWalks
 mod NamesEvents
 mod NamesSteps
+mod NamesApart
+mod NamesLocks

@@ -25,6 +25,11 @@ abbrev pub LocksAlone : List Lock → Type 0
 LocksAlone [] = Unit {0}
 LocksAlone (l ∷ ls) = (lock_on ls l.file ≡ None) × LocksAlone ls
 
+-- a version stays one of its file, with its number, when it is completed
+pub record CompletionKeeps {V : Type 0} (vs : Versions V) : Type 0 where
+  pub file : (v : V) (now : ℕ) → vs.file (vs.completed v now) ≡ vs.file v
+  pub number : (v : V) (now : ℕ) → vs.number (vs.completed v now) ≡ vs.number v
+
 module _ {V : Type 0} where
   -- the close of a session that makes this request found that session's live lock on the file, and the file at the version before
   abbrev pub HeldLock : Tree V → RequestNo → FileId → (number : ℕ) → Type 0
