@@ -15,3 +15,5 @@ mod NamesEvents
 mod NamesSteps
 mod NamesApart
 mod NamesLocks
+mod NewestLines
+mod NamesCommits
