@@ -1,12 +1,13 @@
 -- What is known of an agent's open in progress, by its latest saw line, and reactions that keep it.
-use Rattle.std.proofs.Common.{◌≡◌, ℕ, List, [], ◌∷◌, ◌++◌, fold, Bool, true, false, cond, refl, ap, subst, sym, ◌∙◌, Option, Some, None, arith}
+use Rattle.std.proofs.Common.{◌≡◌, ℕ, List, [], ◌∷◌, ◌++◌, fold, Bool, true, false, cond, refl, ap, subst, sym, ◌∙◌, Option, Some, None, Ok, Err, arith}
 use Rattle.scfs_base.specs.declared.naming.RequestNo.{RequestNo}
 use Rattle.scfs_schedule.specs.declared.types.Src.{Src}
 use Rattle.scfs_machine.specs.Versions.{Versions}
-use Rattle.scfs_machine.specs.Steps.{Step}
+use Rattle.scfs_machine.specs.SessionSteps.{Sight, Session_outcome, Sees, Locks, Completes}
+use Rattle.scfs_machine.specs.Steps.{Step, Outcome, Of_names, Of_locks, Of_sessions}
 use Rattle.scfs_machine.specs.Sayings.{Saying}
 use Rattle.scfs_machine.specs.Sayings as says
-use Rattle.scfs_machine.specs.Agents.{Opening, Waiting, For_step, For_clouds, For_close, Agent, Reaction, silent, saying, asks_step, followed}
+use Rattle.scfs_machine.specs.Agents.{Opening, Waiting, For_step, For_clouds, For_close, Agent, Input, Calls, Tells, Hears, Turns, Reaction, silent, saying, asks_step, followed}
 use Rattle.scfs_machine.specs.Newest.{Saw_line, IsFrom}
 use Rattle.scfs_machine.proofs.NewestLists.{Each, each-map, each-append}
 use Rattle.scfs_machine.proofs.NewestDraws.{Draws, draws_nothing, draws_step, draws-followed, MakesIn, base_of}
@@ -49,6 +50,7 @@ module _ {V : Type 0} (vs : Versions V) (a : ℕ) (K : Saw_line → (number : �
   Known (Some saw) number = K saw number
 
   abbrev pub SayOk : Option Saw_line → Saying → Type 0
+  SayOk latest (says.Saw request file number) = request.agent ≡ a
   SayOk latest (says.Opened session number source size) = Known latest number × IsFrom number source size
   SayOk latest other = Unit {0}
 
@@ -61,6 +63,33 @@ module _ {V : Type 0} (vs : Versions V) (a : ℕ) (K : Saw_line → (number : �
   WaitOk latest (Some (For_clouds o)) = OpeningOk latest o
   WaitOk latest (Some For_close) = Unit {0}
 
+  -- the version beside the number of a sight
+  abbrev pub VersionOk : (number : ℕ) → Option V → Type 0
+  VersionOk number None = number ≡ 0
+  VersionOk number (Some v) = vs.number v ≡ number
+
+  -- what is known of a sight that is told
+  abbrev pub SightOk : RequestNo → Sight V → Type 0
+  SightOk request sight =
+      (request.agent ≡ a) × K (record { request = request; file = sight.file }) sight.number × VersionOk sight.number sight.version
+
+  abbrev pub ToldOk : RequestNo → Session_outcome V → Type 0
+  ToldOk request (Sees sight) = SightOk request sight
+  ToldOk request (Locks sight l) = SightOk request sight
+  ToldOk request (Completes session v n) = Unit {0}
+
+  abbrev pub ReplyOk : RequestNo → Outcome V → Type 0
+  ReplyOk request (Of_names x r) = Unit {0}
+  ReplyOk request (Of_locks x r) = Unit {0}
+  ReplyOk request (Of_sessions x (Ok o)) = ToldOk request o
+  ReplyOk request (Of_sessions x (Err why)) = Unit {0}
+
+  abbrev pub InputOk : Input V → Type 0
+  InputOk (Calls call) = Unit {0}
+  InputOk (Tells request o) = ReplyOk request o
+  InputOk (Hears c request answer) = Unit {0}
+  InputOk Turns = Unit {0}
+
   -- a reaction that says nothing of opens, and keeps what is known
   abbrev pub Steady : (k : ℕ) → Agent V → Reaction V → Type 0
   Steady k g r = Draws a k g r × Each IsQuiet r.says × ((latest : Option Saw_line) → WaitOk latest g.waiting → WaitOk latest r.agent.waiting)
@@ -71,7 +100,7 @@ module _ {V : Type 0} (vs : Versions V) (a : ℕ) (K : Saw_line → (number : �
       Draws a k g r × Each (SayOk (after_says latest r.says)) r.says × WaitOk (after_says latest r.says) r.agent.waiting
 
   pub quiet_ok : (latest : Option Saw_line) (x : Saying) → IsQuiet x → SayOk latest x
-  quiet_ok latest (says.Saw request file number) h = tt
+  quiet_ok latest (says.Saw request file number) h = absurd h
   quiet_ok latest (says.Opened session number source size) h = absurd h
   quiet_ok latest (says.Made id) h = tt
   quiet_ok latest (says.Looked n) h = tt
@@ -117,3 +146,26 @@ module _ {V : Type 0} (vs : Versions V) (a : ℕ) (K : Saw_line → (number : �
   -- a step that makes no file
   pub steady_step : (k : ℕ) (g : Agent V) (step : Step V) → MakesIn (base_of a g) g.files g.files step → Steady k g (asks_step a g step)
   steady_step k g step h = (draws_step a k g step h, tt, λ latest w. w)
+
+-- what is known stays so where it is known otherwise too
+module _ {V : Type 0} (vs : Versions V) (a : ℕ) (K L : Saw_line → (number : ℕ) → Type 0) (to : (saw : Saw_line) (number : ℕ) → K saw number → L saw number) where
+  known_map : (latest : Option Saw_line) (number : ℕ) → Known vs a K latest number → Known vs a L latest number
+  known_map None number h = h
+  known_map (Some saw) number h = to saw number h
+
+  pub wait_map : (latest : Option Saw_line) (w : Option (Waiting V)) → WaitOk vs a K latest w → WaitOk vs a L latest w
+  wait_map latest None h = tt
+  wait_map latest (Some For_step) h = tt
+  wait_map latest (Some (For_clouds o)) h = (known_map latest (vs.number o.version) h.0, h.1)
+  wait_map latest (Some For_close) h = tt
+
+  told_map : (request : RequestNo) (o : Session_outcome V) → ToldOk vs a K request o → ToldOk vs a L request o
+  told_map request (Sees sight) h = (h.0, to _ _ h.1, h.2)
+  told_map request (Locks sight l) h = (h.0, to _ _ h.1, h.2)
+  told_map request (Completes session v n) h = tt
+
+  pub reply_map : (request : RequestNo) (o : Outcome V) → ReplyOk vs a K request o → ReplyOk vs a L request o
+  reply_map request (Of_names x r) h = tt
+  reply_map request (Of_locks x r) h = tt
+  reply_map request (Of_sessions x (Ok o)) h = told_map request o h
+  reply_map request (Of_sessions x (Err why)) h = tt

@@ -25,28 +25,23 @@ use Rattle.scfs_machine.specs.Reactions.{idle, to_open, to_upload, to_work, hear
 use Rattle.scfs_machine.specs.Newest.{Saw_line}
 use Rattle.scfs_machine.proofs.NewestLists.{Each, chosen}
 use Rattle.scfs_machine.proofs.NewestDraws.{Draws, draws_nothing}
-use Rattle.scfs_machine.proofs.NewestKept.{Known, OpeningOk, WaitOk, Steady, Whole, whole-followed, steady_silent, whole_of-steady}
+use Rattle.scfs_machine.proofs.NewestKept.{Known, OpeningOk, WaitOk, VersionOk, SightOk, ReplyOk, InputOk, Steady, Whole, whole-followed, steady_silent, whole_of-steady}
 use Rattle.scfs_machine.proofs.NewestSteady.{steady_upload, steady_upload_hears, steady_upload_turns, steady_next, steady_call}
 
-module _ {V : Type 0} (vs : Versions V) where
-  -- the version beside the number of a sight
-  abbrev pub VersionOk : (number : ℕ) → Option V → Type 0
-  VersionOk number None = number ≡ 0
-  VersionOk number (Some v) = vs.number v ≡ number
-
+module _ {V : Type 0} (vs : Versions V) (a : ℕ) (K : Saw_line → (number : ℕ) → Type 0) where
   abbrev pub FoundOk : (number : ℕ) → Found V → Type 0
   FoundOk number As_empty = number ≡ 0
   FoundOk number (On_clouds v) = (vs.number v ≡ number) × ¬ (number ≡ 0)
 
-  found_version_ok : (number : ℕ) (v : Option V) → VersionOk number v → ¬ (number ≡ 0) → FoundOk number (found_version v)
+  found_version_ok : (number : ℕ) (v : Option V) → VersionOk vs a K number v → ¬ (number ≡ 0) → FoundOk number (found_version v)
   found_version_ok number None h apart = h
   found_version_ok number (Some v) h apart = (h, apart)
 
-  found_by : (number : ℕ) (b : Bool) (v : Option V) → eqb number 0 ≡ b → VersionOk number v → FoundOk number (cond b As_empty (found_version v))
+  found_by : (number : ℕ) (b : Bool) (v : Option V) → eqb number 0 ≡ b → VersionOk vs a K number v → FoundOk number (cond b As_empty (found_version v))
   found_by number true v e h = eqb-true number 0 e
   found_by number false v e h = found_version_ok number v h (eqb-false number 0 e)
 
-  pub found_ok : (sight : Sight V) → VersionOk sight.number sight.version → FoundOk sight.number (found sight)
+  pub found_ok : (sight : Sight V) → VersionOk vs a K sight.number sight.version → FoundOk sight.number (found sight)
   found_ok sight h = found_by sight.number (eqb sight.number 0) sight.version refl h
 
 module _ {V : Type 0} (s : Setup) (vs : Versions V) (a : ℕ) (K : Saw_line → (number : ℕ) → Type 0) (latest : Option Saw_line) where
@@ -60,18 +55,17 @@ module _ {V : Type 0} (s : Setup) (vs : Versions V) (a : ℕ) (K : Saw_line → 
   whole_gets g o clouds h = ((refl, le-add_right _ _, le_refl _, le-add_right _ _, tt, tt), tt, h)
 
   whole_sighted : (g : Agent V) (given : Given) (request : RequestNo) (h : ℕ) (writes : Bool) (sight : Sight V) (f : Found V)
-      → K (record { request = request; file = sight.file }) sight.number → FoundOk vs sight.number f
+      → request.agent ≡ a → K (record { request = request; file = sight.file }) sight.number → FoundOk vs a K sight.number f
       → IsWhole 0 g (followed (saying g (says.Saw request sight.file sight.number)) (λ next. sighted s vs a next given h writes sight f))
-  whole_sighted g given request h writes sight As_empty known k =
-      (draws_nothing a 0 g, (tt, ((known, ((λ e. (refl, refl)), (λ apart. absurd (apart k)))), tt)), tt)
-  whole_sighted g given request h writes sight (On_clouds v) known k =
-      ((refl, le-add_right _ _, le_refl _, le-add_right _ _, tt, tt), (tt, tt),
+  whole_sighted g given request h writes sight As_empty mine known k =
+      (draws_nothing a 0 g, (mine, ((known, ((λ e. (refl, refl)), (λ apart. absurd (apart k)))), tt)), tt)
+  whole_sighted g given request h writes sight (On_clouds v) mine known k =
+      ((refl, le-add_right _ _, le_refl _, le-add_right _ _, tt, tt), (mine, tt),
       (subst (λ n. K (record { request = request; file = sight.file }) n) (sym k.0) known, λ e. k.1 (sym k.0 ∙ e)))
 
   whole_saw : (g : Agent V) (given : Given) (request : RequestNo) (h : ℕ) (writes : Bool) (sight : Sight V)
-      → K (record { request = request; file = sight.file }) sight.number → VersionOk vs sight.number sight.version
-      → IsWhole 0 g (saw s vs a g given request h writes sight)
-  whole_saw g given request h writes sight known v = whole_sighted g given request h writes sight (found sight) known (found_ok vs sight v)
+      → SightOk vs a K request sight → IsWhole 0 g (saw s vs a g given request h writes sight)
+  whole_saw g given request h writes sight k = whole_sighted g given request h writes sight (found sight) k.0 k.1 (found_ok vs a K sight k.2)
 
   steady_back : (g : Agent V) (o : Opening V) (writes : Bool)
       → Steady vs a K 0 g (if writes then asks_step a g (On_locks (Unlock (vs.file o.version) o.session)) else silent g)
@@ -108,22 +102,10 @@ module _ {V : Type 0} (s : Setup) (vs : Versions V) (a : ℕ) (K : Saw_line → 
   whole_to_open g on each (Some (For_clouds o)) known h = each o h
   whole_to_open g on each (Some For_close) known h = (draws_nothing a 0 g, tt, known)
 
-  -- what is told
-  abbrev pub ToldOk : RequestNo → Session_outcome V → Type 0
-  ToldOk request (Sees sight) = K (record { request = request; file = sight.file }) sight.number × VersionOk vs sight.number sight.version
-  ToldOk request (Locks sight l) = K (record { request = request; file = sight.file }) sight.number × VersionOk vs sight.number sight.version
-  ToldOk request (Completes session v n) = Unit {0}
-
-  abbrev pub ReplyOk : RequestNo → Outcome V → Type 0
-  ReplyOk request (Of_names x r) = Unit {0}
-  ReplyOk request (Of_locks x r) = Unit {0}
-  ReplyOk request (Of_sessions x (Ok o)) = ToldOk request o
-  ReplyOk request (Of_sessions x (Err why)) = Unit {0}
-
   whole_told_open : (g : Agent V) (given : Given) (request : RequestNo) (h : ℕ) (x : Session_step V) (r : OrRefusal (Session_outcome V))
-      → WaitOk vs a K latest g.waiting → ReplyOk request (Of_sessions x r) → IsWhole 0 g (told_open s vs a g given request h r)
-  whole_told_open g given request h x (Ok (Sees sight)) w k = whole_saw g given request h false sight k.0 k.1
-  whole_told_open g given request h x (Ok (Locks sight l)) w k = whole_saw g given request h true sight k.0 k.1
+      → WaitOk vs a K latest g.waiting → ReplyOk vs a K request (Of_sessions x r) → IsWhole 0 g (told_open s vs a g given request h r)
+  whole_told_open g given request h x (Ok (Sees sight)) w k = whole_saw g given request h false sight k
+  whole_told_open g given request h x (Ok (Locks sight l)) w k = whole_saw g given request h true sight k
   whole_told_open g given request h x (Ok (Completes session v n)) w k = (draws_nothing a 0 g, tt, w)
   whole_told_open g given request h x (Err why) w k = (draws_nothing a 0 g, (tt, tt), tt)
 
@@ -140,7 +122,7 @@ module _ {V : Type 0} (s : Setup) (vs : Versions V) (a : ℕ) (K : Saw_line → 
   whole_told_names g (Ok (Shows n)) = (draws_nothing a 0 g, (tt, tt), tt)
   whole_told_names g (Err why) = (draws_nothing a 0 g, (tt, tt), tt)
 
-  whole_told : (g : Agent V) (given : Given) (request : RequestNo) (o : Outcome V) → WaitOk vs a K latest g.waiting → ReplyOk request o
+  whole_told : (g : Agent V) (given : Given) (request : RequestNo) (o : Outcome V) → WaitOk vs a K latest g.waiting → ReplyOk vs a K request o
       → IsWhole 0 g (told s vs a g given request o)
   whole_told g given request (Of_names x r) w k = whole_told_names g r
   whole_told g given request (Of_locks x r) w k = (draws_nothing a 0 g, tt, w)
@@ -148,16 +130,10 @@ module _ {V : Type 0} (s : Setup) (vs : Versions V) (a : ℕ) (K : Saw_line → 
   whole_told g given request (Of_sessions (Open_write names h) r) w k = whole_told_open g given request h (Open_write names h) r w k
   whole_told g given request (Of_sessions (Commit h v) r) w k = whole_told_commit g g.closed r w
 
-  whole_tells : (g : Agent V) (given : Given) (request : RequestNo) (o : Outcome V) → WaitOk vs a K latest g.waiting → ReplyOk request o
+  whole_tells : (g : Agent V) (given : Given) (request : RequestNo) (o : Outcome V) → WaitOk vs a K latest g.waiting → ReplyOk vs a K request o
       → IsWhole 0 g (tells s vs a g given request o)
   whole_tells g given request o w k =
       chosen (IsWhole 0 g) (is_pending g request) _ _ (whole_told (untold g request) given request o w k) (draws_nothing a 0 g, tt, w)
-
-  abbrev pub InputOk : Input V → Type 0
-  InputOk (Calls call) = Unit {0}
-  InputOk (Tells request o) = ReplyOk request o
-  InputOk (Hears c request answer) = Unit {0}
-  InputOk Turns = Unit {0}
 
   whole_one : (g : Agent V) (r : Reaction V) → IsWhole 0 g r → IsWhole 1 g r
   whole_one g r h = ((h.0.0, h.0.1, h.0.2, omega (arith, h.0.3), h.0.4, h.0.5), h.1, h.2)
@@ -171,7 +147,7 @@ module _ {V : Type 0} (s : Setup) (vs : Versions V) (a : ℕ) (K : Saw_line → 
       whole-followed vs a K 0 latest g first (λ next. to_upload next on_upload next.closed)
       (whole_to_open g on_open opens g.waiting w w) (steady_upload s vs a K first.agent on_upload uploads first.agent.closed)
 
-  whole_responded : (g : Agent V) (given : Given) (input : Input V) → WaitOk vs a K latest g.waiting → InputOk input
+  whole_responded : (g : Agent V) (given : Given) (input : Input V) → WaitOk vs a K latest g.waiting → InputOk vs a K input
       → IsWhole 1 g (responded s vs a g given input)
   whole_responded g given (Calls call) w k =
       whole_of-steady vs a K 1 latest g (call_of a s g call g.waiting) w (steady_call s vs a K g call g.waiting)
@@ -185,7 +161,7 @@ module _ {V : Type 0} (s : Setup) (vs : Versions V) (a : ℕ) (K : Saw_line → 
       (whole_work g (open_turns s vs a) (upload_turns s a) (λ o h. whole_turns (idle g) o h) (steady_upload_turns s vs a K) w)
 
   -- the whole reaction
-  pub whole_reacted : (g : Agent V) (given : Given) (input : Input V) → WaitOk vs a K latest g.waiting → InputOk input
+  pub whole_reacted : (g : Agent V) (given : Given) (input : Input V) → WaitOk vs a K latest g.waiting → InputOk vs a K input
       → IsWhole 1 g (reacted s vs a g given input)
   whole_reacted g given input w k =
       let first : Reaction V = responded s vs a g given input in
