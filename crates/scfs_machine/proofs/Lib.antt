@@ -17,3 +17,4 @@ mod NamesApart
 mod NamesLocks
 mod NewestLines
 mod NamesCommits
+mod NewestVersions

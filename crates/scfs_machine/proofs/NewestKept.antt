@@ -43,6 +43,12 @@ pub after-append : (latest : Option Saw_line) (xs ys : List Saying) → after_sa
 after-append latest [] ys = refl
 after-append latest (x ∷ xs) ys = after-append (after_saying latest x) xs ys
 
+module _ {V : Type 0} (vs : Versions V) where
+  -- the version beside the number of a sight
+  abbrev pub VersionOk : (number : ℕ) → Option V → Type 0
+  VersionOk number None = number ≡ 0
+  VersionOk number (Some v) = vs.number v ≡ number
+
 -- K tells what is known of a version's number, beside a saw line
 module _ {V : Type 0} (vs : Versions V) (a : ℕ) (K : Saw_line → (number : ℕ) → Type 0) where
   abbrev pub Known : Option Saw_line → (number : ℕ) → Type 0
@@ -63,15 +69,10 @@ module _ {V : Type 0} (vs : Versions V) (a : ℕ) (K : Saw_line → (number : �
   WaitOk latest (Some (For_clouds o)) = OpeningOk latest o
   WaitOk latest (Some For_close) = Unit {0}
 
-  -- the version beside the number of a sight
-  abbrev pub VersionOk : (number : ℕ) → Option V → Type 0
-  VersionOk number None = number ≡ 0
-  VersionOk number (Some v) = vs.number v ≡ number
-
   -- what is known of a sight that is told
   abbrev pub SightOk : RequestNo → Sight V → Type 0
   SightOk request sight =
-      (request.agent ≡ a) × K (record { request = request; file = sight.file }) sight.number × VersionOk sight.number sight.version
+      (request.agent ≡ a) × K (record { request = request; file = sight.file }) sight.number × VersionOk vs sight.number sight.version
 
   abbrev pub ToldOk : RequestNo → Session_outcome V → Type 0
   ToldOk request (Sees sight) = SightOk request sight

@@ -28,20 +28,20 @@ use Rattle.scfs_machine.proofs.NewestDraws.{Draws, draws_nothing}
 use Rattle.scfs_machine.proofs.NewestKept.{Known, OpeningOk, WaitOk, VersionOk, SightOk, ReplyOk, InputOk, Steady, Whole, whole-followed, steady_silent, whole_of-steady}
 use Rattle.scfs_machine.proofs.NewestSteady.{steady_upload, steady_upload_hears, steady_upload_turns, steady_next, steady_call}
 
-module _ {V : Type 0} (vs : Versions V) (a : ℕ) (K : Saw_line → (number : ℕ) → Type 0) where
+module _ {V : Type 0} (vs : Versions V) where
   abbrev pub FoundOk : (number : ℕ) → Found V → Type 0
   FoundOk number As_empty = number ≡ 0
   FoundOk number (On_clouds v) = (vs.number v ≡ number) × ¬ (number ≡ 0)
 
-  found_version_ok : (number : ℕ) (v : Option V) → VersionOk vs a K number v → ¬ (number ≡ 0) → FoundOk number (found_version v)
+  found_version_ok : (number : ℕ) (v : Option V) → VersionOk vs number v → ¬ (number ≡ 0) → FoundOk number (found_version v)
   found_version_ok number None h apart = h
   found_version_ok number (Some v) h apart = (h, apart)
 
-  found_by : (number : ℕ) (b : Bool) (v : Option V) → eqb number 0 ≡ b → VersionOk vs a K number v → FoundOk number (cond b As_empty (found_version v))
+  found_by : (number : ℕ) (b : Bool) (v : Option V) → eqb number 0 ≡ b → VersionOk vs number v → FoundOk number (cond b As_empty (found_version v))
   found_by number true v e h = eqb-true number 0 e
   found_by number false v e h = found_version_ok number v h (eqb-false number 0 e)
 
-  pub found_ok : (sight : Sight V) → VersionOk vs a K sight.number sight.version → FoundOk sight.number (found sight)
+  pub found_ok : (sight : Sight V) → VersionOk vs sight.number sight.version → FoundOk sight.number (found sight)
   found_ok sight h = found_by sight.number (eqb sight.number 0) sight.version refl h
 
 module _ {V : Type 0} (s : Setup) (vs : Versions V) (a : ℕ) (K : Saw_line → (number : ℕ) → Type 0) (latest : Option Saw_line) where
@@ -55,7 +55,7 @@ module _ {V : Type 0} (s : Setup) (vs : Versions V) (a : ℕ) (K : Saw_line → 
   whole_gets g o clouds h = ((refl, le-add_right _ _, le_refl _, le-add_right _ _, tt, tt), tt, h)
 
   whole_sighted : (g : Agent V) (given : Given) (request : RequestNo) (h : ℕ) (writes : Bool) (sight : Sight V) (f : Found V)
-      → request.agent ≡ a → K (record { request = request; file = sight.file }) sight.number → FoundOk vs a K sight.number f
+      → request.agent ≡ a → K (record { request = request; file = sight.file }) sight.number → FoundOk vs sight.number f
       → IsWhole 0 g (followed (saying g (says.Saw request sight.file sight.number)) (λ next. sighted s vs a next given h writes sight f))
   whole_sighted g given request h writes sight As_empty mine known k =
       (draws_nothing a 0 g, (mine, ((known, ((λ e. (refl, refl)), (λ apart. absurd (apart k)))), tt)), tt)
@@ -65,7 +65,7 @@ module _ {V : Type 0} (s : Setup) (vs : Versions V) (a : ℕ) (K : Saw_line → 
 
   whole_saw : (g : Agent V) (given : Given) (request : RequestNo) (h : ℕ) (writes : Bool) (sight : Sight V)
       → SightOk vs a K request sight → IsWhole 0 g (saw s vs a g given request h writes sight)
-  whole_saw g given request h writes sight k = whole_sighted g given request h writes sight (found sight) k.0 k.1 (found_ok vs a K sight k.2)
+  whole_saw g given request h writes sight k = whole_sighted g given request h writes sight (found sight) k.0 k.1 (found_ok vs sight k.2)
 
   steady_back : (g : Agent V) (o : Opening V) (writes : Bool)
       → Steady vs a K 0 g (if writes then asks_step a g (On_locks (Unlock (vs.file o.version) o.session)) else silent g)
