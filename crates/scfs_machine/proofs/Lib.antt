@@ -18,3 +18,4 @@ mod NamesLocks
 mod NewestLines
 mod NamesCommits
 mod NewestVersions
+mod NewestTree

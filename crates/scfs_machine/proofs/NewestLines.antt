@@ -73,7 +73,7 @@ each-did P s a before said sent h k each =
     all_sent (x ∷ xs) = (each x, all_sent xs)
 
 -- the versions that were committed, after lines that commit nothing
-commits_nothing : (file : FileId) (number : ℕ) (l : Line) → IsNoCommit l → after_commit file number l ≡ number
+pub commits_nothing : (file : FileId) (number : ℕ) (l : Line) → IsNoCommit l → after_commit file number l ≡ number
 commits_nothing file number (lines.Committed request other version) h = absurd h
 commits_nothing file number _ h = refl
 

@@ -34,6 +34,10 @@ pub each-map : {X : Type 0} (P Q : X → Type 0) → ((x : X) → P x → Q x) �
 each-map P Q f [] h = tt
 each-map P Q f (x ∷ xs) h = (f x h.0, each-map P Q f xs h.1)
 
+pub each-two : {X : Type 0} (P Q R : X → Type 0) → ((x : X) → P x → Q x → R x) → (xs : List X) → Each P xs → Each Q xs → Each R xs
+each-two P Q R f [] h k = tt
+each-two P Q R f (x ∷ xs) h k = (f x h.0 k.0, each-two P Q R f xs h.1 k.1)
+
 module _ {X : Type 0} (P : X → Type 0) where
   pub each-always : ((x : X) → P x) → (xs : List X) → Each P xs
   each-always f [] = tt
