@@ -19,3 +19,4 @@ mod NewestLines
 mod NamesCommits
 mod NewestVersions
 mod NewestTree
+mod NewestServes

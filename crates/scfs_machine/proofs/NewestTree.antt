@@ -74,7 +74,7 @@ module _ {V : Type 0} (vs : Versions V) where
       tree_said committed (λ id. after_commit id (committed id) l) nodes versions (λ id. commits_nothing id (committed id) l quiet) h
 
   -- after a file is made
-  tree_made : (committed : FileId → ℕ) (nodes : List Node) (versions : List V) (id d : FileId) (last : List ℕ) → Each (IsNot id) nodes
+  pub tree_made : (committed : FileId → ℕ) (nodes : List Node) (versions : List V) (id d : FileId) (last : List ℕ) → Each (IsNot id) nodes
       → TreeOk committed nodes versions → TreeOk committed (nodes ++ new_file id d last ∷ []) versions
   tree_made committed nodes versions id d last new h =
       record {
