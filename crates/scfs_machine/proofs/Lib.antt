@@ -20,3 +20,4 @@ mod NamesCommits
 mod NewestVersions
 mod NewestTree
 mod NewestServes
+mod NewestSeats
