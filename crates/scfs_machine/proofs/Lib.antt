@@ -21,3 +21,4 @@ mod NewestVersions
 mod NewestTree
 mod NewestServes
 mod NewestSeats
+mod NewestSaid
