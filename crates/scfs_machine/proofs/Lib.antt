@@ -22,3 +22,4 @@ mod NewestTree
 mod NewestServes
 mod NewestSeats
 mod NewestSaid
+mod NewestComes
