@@ -23,3 +23,5 @@ mod NewestServes
 mod NewestSeats
 mod NewestSaid
 mod NewestComes
+mod NewestServed
+mod NewestPlaces
