@@ -70,3 +70,45 @@ module _ {V : Type 0} (vs : Versions V) (keeps : CompletionKeeps vs) (past : His
     reply_seen y (Ok (Locks sight lock)) k = sight_known sight k
     reply_seen y (Ok (Completes session v n)) k = tt
     reply_seen y (Err why) k = tt
+
+    seen_step : (step : Step V) → (step ≡ oldest.step) → ReplyOk vs a (KnownBy (e ∷ past) a q rest) oldest.number (served vs tree now lease oldest.number step).outcome
+    seen_step (On_names y) is = tt
+    seen_step (On_locks (Unlock file session)) is = tt
+    seen_step (On_sessions y) is =
+        reply_seen y (session_outcome vs tree now (now + lease) oldest.number y)
+        (subst (λ z. SeenBy vs keeps tree now lease oldest.number (λ id. last_committed id past) committed
+        (line_at vs keeps tree now lease oldest.number z) (session_outcome vs tree now (now + lease) oldest.number y)) is
+        (serve_seen vs keeps tree now lease oldest.number (λ id. last_committed id past) committed y))
+
+    -- the seat whose step is served
+    pub served_seat : SeatOk vs (e ∷ past) x.tree.nodes a
+        (record seat { asked = rest; replied = seat.replied ++ (record { number = oldest.number; outcome = x.outcome }) ∷ [] })
+    served_seat =
+        record {
+          incarnation = h.incarnation;
+          files = omega (arith, h.files);
+          ahead = serve_ids vs keeps tree now lease oldest.number (NotAhead a seat.agent.files) oldest.step h.ahead
+              (made_behind a q seat.agent.files oldest h.drawn.0);
+          drawn = h.drawn.1;
+          new = each-two (λ (y : Request V). Apart oldest y) (λ (y : Request V). MakesNew tree.nodes y.step) (λ (y : Request V). MakesNew x.tree.nodes y.step)
+              (λ y apart k. still_new vs keeps tree now lease oldest.number oldest.step y.step apart.1 k) rest h.apart.0 h.new.1;
+          apart = h.apart.1;
+          replied = each-append _ seat.replied ((record { number = oldest.number; outcome = x.outcome }) ∷ [])
+              (each-map _ _ (λ y. reply_map vs a _ _ on y.number y.outcome) seat.replied h.replied)
+              (seen_step oldest.step refl, tt);
+          waiting = subst (λ latest. WaitOk vs a (KnownBy (e ∷ past) a q rest) latest seat.agent.waiting)
+              (sym (no_saws a (latest_saw a past) e.lines (unseen a))) (wait_map vs a _ _ on (latest_saw a past) seat.agent.waiting h.waiting);
+        }
+
+  -- another seat
+  pub other_seat : (b : ℕ) → ¬ (b ≡ a) → (y : Seat V) → length past ≤ 2 ^ 32 → SeatOk vs past tree.nodes b y → SeatOk vs (e ∷ past) x.tree.nodes b y
+  other_seat b other y small g =
+      seat_stays vs past e tree.nodes x.tree.nodes b y g
+      (serve_ids vs keeps tree now lease oldest.number (NotAhead b y.agent.files) oldest.step g.ahead
+      (made_elsewhere a b seat.agent.files y.agent.files oldest.step other (le_trans h.files small) h.drawn.0.2))
+      (each-two (λ (z : Request V). IsAsked b y.agent.requests y.agent.files z) (λ (z : Request V). MakesNew tree.nodes z.step) (λ (z : Request V). MakesNew x.tree.nodes z.step)
+      (λ z k new. still_new vs keeps tree now lease oldest.number oldest.step z.step
+      (elsewhere_apart a b seat.agent.files y.agent.files oldest.step z.step other (le_trans h.files small) (le_trans g.files small) h.drawn.0.2 k.2) new)
+      y.asked g.drawn g.new)
+      (λ request k. unserved request (other_agent oldest.number request (λ e2. other (sym k ∙ (sym e2 ∙ h.drawn.0.0)))))
+      (unseen b)
