@@ -25,3 +25,4 @@ mod NewestSaid
 mod NewestComes
 mod NewestServed
 mod NewestPlaces
+mod NewestStates
