@@ -26,3 +26,4 @@ mod NewestComes
 mod NewestServed
 mod NewestPlaces
 mod NewestStates
+mod NewestOpens

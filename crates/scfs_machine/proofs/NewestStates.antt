@@ -108,7 +108,7 @@ module _ {V : Type 0} (s : Setup) (vs : Versions V) (keeps : CompletionKeeps vs)
       let g : SeatOk vs past N b y = h.seats b y found in
       seat_stays vs past e N N b y g g.ahead g.new (λ request k. no_services request e.lines quiet) unseen
 
-  fine_nothing : (shown : List Line) → Each IsIdle shown → IsFine (leaving state shown)
+  pub fine_nothing : (shown : List Line) → Each IsIdle shown → IsFine (leaving state shown)
   fine_nothing shown idle same =
       let idle_lines : Each IsIdle e.lines = subst (Each IsIdle) (sym same) idle in
       let quiet : Each IsOfAgent e.lines = each-map IsIdle IsOfAgent idle_of_agent e.lines idle_lines in
@@ -137,12 +137,12 @@ module _ {V : Type 0} (s : Setup) (vs : Versions V) (keeps : CompletionKeeps vs)
   no_reply a K (Hears c request answer) k = tt
   no_reply a K Turns k = tt
 
-  fine_come : (a : ℕ) (seat : Seat V) (before : List Line) (input : Input V) → slice_get state.seats a ≡ Some seat → Each IsIdle before → IsNoReply input
+  pub fine_come : (a : ℕ) (seat : Seat V) (before : List Line) (input : Input V) → slice_get state.seats a ≡ Some seat → Each IsIdle before → IsNoReply input
       → IsFine (comes s vs state a given before input seat)
   fine_come a seat before input found idle k =
       fine_comes a seat seat before input found (h.seats a seat found) idle (no_reply a (KnownBy past a seat.agent.requests seat.asked) input k)
 
-  fine_told : (a : ℕ) (seat : Seat V) (oldest : Reply V) (rest : List (Reply V)) → slice_get state.seats a ≡ Some seat → seat.replied ≡ oldest ∷ rest
+  pub fine_told : (a : ℕ) (seat : Seat V) (oldest : Reply V) (rest : List (Reply V)) → slice_get state.seats a ≡ Some seat → seat.replied ≡ oldest ∷ rest
       → IsFine (comes s vs state a given [] (Tells oldest.number oldest.outcome) (record seat { replied = rest }))
   fine_told a seat oldest rest found is =
       let both : SeatOk vs past N a (record seat { replied = rest }) × ReplyOk vs a (KnownBy past a seat.agent.requests seat.asked) oldest.number oldest.outcome =
@@ -150,7 +150,7 @@ module _ {V : Type 0} (s : Setup) (vs : Versions V) (keeps : CompletionKeeps vs)
       in
       fine_comes a seat (record seat { replied = rest }) [] (Tells oldest.number oldest.outcome) found both.0 tt both.1
 
-  fine_postpone : (a : ℕ) (seat : Seat V) (oldest : Request V) (rest : List (Request V)) → slice_get state.seats a ≡ Some seat → seat.asked ≡ oldest ∷ rest
+  pub fine_postpone : (a : ℕ) (seat : Seat V) (oldest : Request V) (rest : List (Request V)) → slice_get state.seats a ≡ Some seat → seat.asked ≡ oldest ∷ rest
       → IsFine (postpones state a seat (oldest ∷ rest))
   fine_postpone a seat oldest rest found is same =
       let quiet : Each IsOfAgent e.lines = subst (Each IsOfAgent) (sym same) tt in
