@@ -14,7 +14,7 @@ use Rattle.scfs_machine.proofs.NewestDraws.{Draws, draws_nothing, draws_step, dr
 
 -- the latest saw line after what an agent says
 abbrev pub after_saying : Option Saw_line → Saying → Option Saw_line
-after_saying latest (says.Saw request file number) = Some (record { request = request; file = file })
+after_saying latest (says.Saw request file number) = Some (record { request = request; file = file; number = number })
 after_saying latest other = latest
 
 abbrev pub after_says : Option Saw_line → List Saying → Option Saw_line
@@ -56,7 +56,8 @@ module _ {V : Type 0} (vs : Versions V) (a : ℕ) (K : Saw_line → (number : �
   Known (Some saw) number = K saw number
 
   abbrev pub SayOk : Option Saw_line → Saying → Type 0
-  SayOk latest (says.Saw request file number) = request.agent ≡ a
+  SayOk latest (says.Saw request file number) =
+      (request.agent ≡ a) × K (record { request = request; file = file; number = number }) number
   SayOk latest (says.Opened session number source size) = Known latest number × IsFrom number source size
   SayOk latest other = Unit {0}
 
@@ -72,7 +73,7 @@ module _ {V : Type 0} (vs : Versions V) (a : ℕ) (K : Saw_line → (number : �
   -- what is known of a sight that is told
   abbrev pub SightOk : RequestNo → Sight V → Type 0
   SightOk request sight =
-      (request.agent ≡ a) × K (record { request = request; file = sight.file }) sight.number × VersionOk vs sight.number sight.version
+      (request.agent ≡ a) × K (record { request = request; file = sight.file; number = sight.number }) sight.number × VersionOk vs sight.number sight.version
 
   abbrev pub ToldOk : RequestNo → Session_outcome V → Type 0
   ToldOk request (Sees sight) = SightOk request sight

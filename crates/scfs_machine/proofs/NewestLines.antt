@@ -98,7 +98,7 @@ IsNoSawBy a other = Unit {0}
 
 sees_nothing : (a : ℕ) (latest : Option Saw_line) (l : Line) → IsNoSawBy a l → after_saw a latest l ≡ latest
 sees_nothing a latest (lines.Saw request file number) h =
-    ap (λ b. cond b (Some (record { request = request; file = file })) latest) (eqb-apart request.agent a h)
+    ap (λ b. cond b (Some (record { request = request; file = file; number = number })) latest) (eqb-apart request.agent a h)
 sees_nothing a latest _ h = refl
 
 pub no_saws : (a : ℕ) (latest : Option Saw_line) (xs : List Line) → Each (IsNoSawBy a) xs → fold (after_saw a) latest xs ≡ latest

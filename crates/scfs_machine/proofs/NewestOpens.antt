@@ -27,6 +27,7 @@ use Rattle.scfs_machine.proofs.NewestStates.{StateOk, IsFine, fine_nothing, fine
 use Rattle.scfs_machine.proofs.NamesEvents.{of_place}
 
 step_ok : (past : History) (e : Entry) (request : RequestNo) (l : Line) → IsOfStep request l → LineOk past e l
+step_ok past e request (lines.Saw other file number) k = absurd k
 step_ok past e request (lines.Opened a h number source size) k = absurd k
 step_ok past e request _ k = tt
 
@@ -85,7 +86,8 @@ module _ {V : Type 0} (s : Setup) (vs : Versions V) (keeps : CompletionKeeps vs)
   opens_newest (e ∷ past) small follows =
       let less : length past ≤ 2 ^ 32 = omega (arith, small) in
       let fine : Each (LineOk past e) e.lines = (fine_event past e small follows.0 (state_ok past less follows.1)).1 in
-      ((λ a h number source size inside. each_of-contains (LineOk past e) e.lines (lines.Opened a h number source size) fine inside),
+      ((λ request file number inside. each_of-contains (LineOk past e) e.lines (lines.Saw request file number) fine inside),
+      (λ a h number source size inside. each_of-contains (LineOk past e) e.lines (lines.Opened a h number source size) fine inside),
       opens_newest past less follows.1)
 
 -- in every run of at most 2^32 events each open is of the newest version of its file

@@ -59,8 +59,8 @@ module _ {V : Type 0} (vs : Versions V) (keeps : CompletionKeeps vs) (past : His
         → SightOk vs a (KnownBy (e ∷ past) a q rest) oldest.number sight
     sight_known sight k =
         (h.drawn.0.0,
-        ((past, ap (λ xs. cond (list_any (is_service oldest.number) xs) (Some past) (before_service oldest.number past)) same
-        ∙ ap (λ b. cond (b || false) (Some past) (before_service oldest.number past)) k.2, k.0),
+        ((refl, (past, ap (λ xs. cond (list_any (is_service oldest.number) xs) (Some past) (before_service oldest.number past)) same
+        ∙ ap (λ b. cond (b || false) (Some past) (before_service oldest.number past)) k.2, k.0)),
         (h.drawn.0.0, h.drawn.0.1, each-map _ _ (λ y apart e2. apart.0 (sym e2)) rest h.apart.0)),
         k.1)
 

@@ -18,7 +18,7 @@ use Rattle.scfs_machine.specs.Sayings as says
 use Rattle.scfs_machine.specs.Agents.{Agent, Request, Input, Reaction, Sent}
 use Rattle.scfs_machine.specs.Reactions.{reacted}
 use Rattle.scfs_machine.specs.States.{Reply, Seat, State, comes, request_line}
-use Rattle.scfs_machine.specs.Newest.{Saw_line, IsNewest, IsFrom, is_service, after_saw, latest_saw}
+use Rattle.scfs_machine.specs.Newest.{Saw_line, WasNewest, IsNewest, IsFrom, is_service, after_saw, latest_saw}
 use Rattle.scfs_machine.proofs.NewestLists.{Each, Pairs, each-map, each-two, each-append, each-always, pairs-join}
 use Rattle.scfs_machine.proofs.NewestDraws.{MakesIn, Apart, IsDrawn, Draws, base_of, makes_wider, makes_apart}
 use Rattle.scfs_machine.proofs.NewestKept.{Known, SayOk, WaitOk, ReplyOk, InputOk, Whole, after_saying, after_says, wait_map, reply_map}
@@ -34,10 +34,12 @@ fold-append f y (x ∷ xs) zs = fold-append f (f y x) xs zs
 
 -- a line in which an opened line of agents is of the newest version
 abbrev pub LineOk : (past : History) (e : Entry) → Line → Type 0
+LineOk past e (lines.Saw request file number) = WasNewest past (record { request = request; file = file; number = number })
 LineOk past e (lines.Opened a h number source size) = IsNewest past (latest_saw a (e ∷ past)) number × IsFrom number source size
 LineOk past e other = Unit {0}
 
 pub idle_ok : (past : History) (e : Entry) (l : Line) → IsIdle l → LineOk past e l
+idle_ok past e (lines.Saw request file number) k = absurd k
 idle_ok past e (lines.Opened a h number source size) k = absurd k
 idle_ok past e _ k = tt
 
@@ -62,8 +64,8 @@ module _ {V : Type 0} (vs : Versions V) (a : ℕ) (K : Saw_line → (number : �
   pub saw_said : (latest : Option Saw_line) (xs : List Saying) → Each (SayOk vs a K final) xs → fold (after_saw a) latest (map (said_by a) xs) ≡ after_says latest xs
   saw_said latest [] h = refl
   saw_said latest (says.Saw request file number ∷ xs) h =
-      ap (λ b. fold (after_saw a) (cond b (Some (record { request = request; file = file })) latest) (map (said_by a) xs)) (eq-eqb request.agent a h.0)
-      ∙ saw_said (Some (record { request = request; file = file })) xs h.1
+      ap (λ b. fold (after_saw a) (cond b (Some (record { request = request; file = file; number = number })) latest) (map (said_by a) xs)) (eq-eqb request.agent a h.0.0)
+      ∙ saw_said (Some (record { request = request; file = file; number = number })) xs h.1
   saw_said latest (says.Opened session number source size ∷ xs) h = saw_said latest xs h.1
   saw_said latest (says.Made id ∷ xs) h = saw_said latest xs h.1
   saw_said latest (says.Looked n ∷ xs) h = saw_said latest xs h.1
@@ -75,7 +77,7 @@ module _ {V : Type 0} (vs : Versions V) (a : ℕ) (K : Saw_line → (number : �
   saw_said latest (says.Refused why ∷ xs) h = saw_said latest xs h.1
 
   pub said_unseen : (b : ℕ) → ¬ (b ≡ a) → (x : Saying) → SayOk vs a K final x → IsNoSawBy b (said_by a x)
-  said_unseen b other (says.Saw request file number) h = λ e. other (sym e ∙ h)
+  said_unseen b other (says.Saw request file number) h = λ e. other (sym e ∙ h.0)
   said_unseen b other (says.Opened session number source size) h = tt
   said_unseen b other (says.Made id) h = tt
   said_unseen b other (says.Looked n) h = tt
@@ -95,7 +97,7 @@ module _ {V : Type 0} (vs : Versions V) (past : History) (e : Entry) (a drawn : 
   known_newest (Some saw) number h = h.0
 
   pub said_ok : (x : Saying) → SayOk vs a K (latest_saw a (e ∷ past)) x → LineOk past e (said_by a x)
-  said_ok (says.Saw request file number) h = tt
+  said_ok (says.Saw request file number) h = h.1.0.1
   said_ok (says.Opened session number source size) h = (known_newest (latest_saw a (e ∷ past)) number h.0, h.1)
   said_ok (says.Made id) h = tt
   said_ok (says.Looked n) h = tt

@@ -25,7 +25,7 @@ module _ {V : Type 0} where
       (request.agent ≡ a) × (request.number ≤ drawn) × Each (λ (x : Request V). ¬ (x.number.number ≡ request.number)) asked
 
   abbrev pub KnownBy : History → (a drawn : ℕ) → List (Request V) → Saw_line → (number : ℕ) → Type 0
-  KnownBy past a drawn asked saw number = WasNewest past saw number × IsServed a drawn asked saw.request
+  KnownBy past a drawn asked saw number = ((number ≡ saw.number) × WasNewest past saw) × IsServed a drawn asked saw.request
 
   -- a request that waits is one that agent a drew
   abbrev pub IsAsked : (a drawn files : ℕ) → Request V → Type 0
@@ -37,7 +37,7 @@ module _ {V : Type 0} where
       → (saw : Saw_line) (number : ℕ) → KnownBy past a drawn asked saw number → KnownBy (e ∷ past) a drawn2 asked2 saw number
   known_on past e a drawn drawn2 asked asked2 stays saw number k =
       let next : (list_any (is_service saw.request) e.lines ≡ false) × IsServed a drawn2 asked2 saw.request = stays saw.request k.1 in
-      ((k.0.0, ap (λ b. cond b (Some past) (before_service saw.request past)) next.0 ∙ k.0.1, k.0.2), next.1)
+      ((k.0.0, (k.0.1.0, ap (λ b. cond b (Some past) (before_service saw.request past)) next.0 ∙ k.0.1.1, k.0.1.2)), next.1)
 
 module _ {V : Type 0} (vs : Versions V) where
   pub record SeatOk (past : History) (nodes : List Node) (a : ℕ) (seat : Seat V) : Type 0 where

@@ -55,13 +55,13 @@ module _ {V : Type 0} (s : Setup) (vs : Versions V) (a : ℕ) (K : Saw_line → 
   whole_gets g o clouds h = ((refl, le-add_right _ _, le_refl _, le-add_right _ _, tt, tt), tt, h)
 
   whole_sighted : (g : Agent V) (given : Given) (request : RequestNo) (h : ℕ) (writes : Bool) (sight : Sight V) (f : Found V)
-      → request.agent ≡ a → K (record { request = request; file = sight.file }) sight.number → FoundOk vs sight.number f
+      → request.agent ≡ a → K (record { request = request; file = sight.file; number = sight.number }) sight.number → FoundOk vs sight.number f
       → IsWhole 0 g (followed (saying g (says.Saw request sight.file sight.number)) (λ next. sighted s vs a next given h writes sight f))
   whole_sighted g given request h writes sight As_empty mine known k =
-      (draws_nothing a 0 g, (mine, ((known, ((λ e. (refl, refl)), (λ apart. absurd (apart k)))), tt)), tt)
+      (draws_nothing a 0 g, ((mine, known), ((known, ((λ e. (refl, refl)), (λ apart. absurd (apart k)))), tt)), tt)
   whole_sighted g given request h writes sight (On_clouds v) mine known k =
-      ((refl, le-add_right _ _, le_refl _, le-add_right _ _, tt, tt), (mine, tt),
-      (subst (λ n. K (record { request = request; file = sight.file }) n) (sym k.0) known, λ e. k.1 (sym k.0 ∙ e)))
+      ((refl, le-add_right _ _, le_refl _, le-add_right _ _, tt, tt), ((mine, known), tt),
+      (subst (λ n. K (record { request = request; file = sight.file; number = sight.number }) n) (sym k.0) known, λ e. k.1 (sym k.0 ∙ e)))
 
   whole_saw : (g : Agent V) (given : Given) (request : RequestNo) (h : ℕ) (writes : Bool) (sight : Sight V)
       → SightOk vs a K request sight → IsWhole 0 g (saw s vs a g given request h writes sight)

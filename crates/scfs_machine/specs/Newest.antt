@@ -33,14 +33,16 @@ abbrev pub before_service : RequestNo → History → Option History
 before_service request [] = None
 before_service request (e ∷ past) = if list_any (is_service request) e.lines then Some past else before_service request past
 
--- a saw line: the request of an open, and its file
+-- a saw line: the request of an open, its file, and the version that the open saw
 pub record Saw_line : Type 0 where
   pub request : RequestNo
   pub file : FileId
+  pub number : ℕ
 
 -- the latest saw line of an agent after a line
 abbrev pub after_saw : (a : ℕ) → Option Saw_line → Line → Option Saw_line
-after_saw a latest (lines.Saw request file number) = if request.agent == a then Some (record { request = request; file = file }) else latest
+after_saw a latest (lines.Saw request file number) =
+    if request.agent == a then Some (record { request = request; file = file; number = number }) else latest
 after_saw a latest other = latest
 
 -- the latest saw line of an agent. An opened line belongs to this one: an open says what it saw when it is told its sight, and an agent
@@ -49,27 +51,32 @@ abbrev pub latest_saw : (a : ℕ) → History → Option Saw_line
 latest_saw a [] = None
 latest_saw a (e ∷ past) = fold (after_saw a) (latest_saw a past) e.lines
 
--- version 0 is empty, and any other one comes from the clouds
-abbrev pub IsFrom : (number : ℕ) → Src → (size : ℕ) → Type 0
-IsFrom number source size = (number ≡ 0 → (source ≡ sources.Empty) × (size ≡ 0)) × (¬ (number ≡ 0) → source ≡ sources.Clouds)
-
--- a saw line's file had this version as its newest when the request was served
-abbrev pub WasNewest : History → Saw_line → (number : ℕ) → Type 0
-WasNewest past saw number =
-    (before : History) × (before_service saw.request past ≡ Some before) × (number ≡ last_committed saw.file before)
+-- a saw line's version was the newest of its file when its request was served
+abbrev pub WasNewest : History → Saw_line → Type 0
+WasNewest past saw = (before : History) × (before_service saw.request past ≡ Some before) × (saw.number ≡ last_committed saw.file before)
 
 -- an open of this version, where this is the agent's latest saw line
 abbrev pub IsNewest : History → Option Saw_line → (number : ℕ) → Type 0
 IsNewest past None number = ⊥
-IsNewest past (Some saw) number = WasNewest past saw number
+IsNewest past (Some saw) number = (number ≡ saw.number) × WasNewest past saw
 
--- each opened line of an entry shows the newest version of its file
+-- version 0 is empty, and any other one comes from the clouds
+abbrev pub IsFrom : (number : ℕ) → Src → (size : ℕ) → Type 0
+IsFrom number source size = (number ≡ 0 → (source ≡ sources.Empty) × (size ≡ 0)) × (¬ (number ≡ 0) → source ≡ sources.Clouds)
+
+-- each saw line of an entry is of the newest version of its file
+abbrev pub SeesNewest : History → Entry → Type 0
+SeesNewest past e =
+    (request : RequestNo) (file : FileId) (number : ℕ) → Contains e.lines (lines.Saw request file number)
+    → WasNewest past (record { request = request; file = file; number = number })
+
+-- each opened line of an entry is of the newest version of its file
 abbrev pub ShowsNewest : History → Entry → Type 0
 ShowsNewest past e =
     (a h number : ℕ) (source : Src) (size : ℕ) → Contains e.lines (lines.Opened a h number source size)
     → IsNewest past (latest_saw a (e ∷ past)) number × IsFrom number source size
 
--- each opened line of a history does
+-- each saw line and each opened line of a history is
 abbrev pub OpensNewest : History → Type 0
 OpensNewest [] = Unit {0}
-OpensNewest (e ∷ past) = ShowsNewest past e × OpensNewest past
+OpensNewest (e ∷ past) = SeesNewest past e × ShowsNewest past e × OpensNewest past
