@@ -27,3 +27,4 @@ mod NewestServed
 mod NewestPlaces
 mod NewestStates
 mod NewestOpens
+mod NewestRuns

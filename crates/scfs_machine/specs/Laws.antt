@@ -1,6 +1,4 @@
 use Rattle.std.specs.Prelude.{◌≡◌, ◌≤◌, ℕ, List, [], ◌∷◌, length, find, Bool, ◌&&◌, ◌==◌, if◌then◌else◌, None, Contains}
-use Rattle.std.specs.Str.{bytes_eq}
-use Rattle.scfs_base.specs.declared.naming.FileId.{FileId}
 use Rattle.scfs_gf256.specs.Polynomials.{AreBytes}
 use Rattle.scfs_schedule.specs.Grammar.{IsHeader, IsEvent}
 use Rattle.scfs_schedule.specs.declared.types.Call.{Call}
@@ -8,11 +6,9 @@ use Rattle.scfs_schedule.specs.declared.types.Call.TheVariants as calls
 use Rattle.scfs_schedule.specs.declared.types.Event.{Event}
 use Rattle.scfs_schedule.specs.declared.types.Event.TheVariants as events
 use Rattle.scfs_schedule.specs.declared.types.Header.{Header}
-use Rattle.scfs_machine.specs.Names.{same_file}
 use Rattle.scfs_machine.specs.Format.{Setup}
 use Rattle.scfs_machine.specs.UnitFormat.{under}
 use Rattle.scfs_machine.specs.History.{Entry, History}
-use Rattle.scfs_machine.specs.Tree.{Node}
 use Rattle.scfs_machine.specs.Runs.{mapped, Happens, Run}
 use Rattle.scfs_machine.specs.Clouds.{IsServed}
 use Rattle.scfs_machine.specs.Blocks.{NoClash}
@@ -38,12 +34,3 @@ abbrev pub SoundWithoutClash : Type 0
 SoundWithoutClash =
     (header : Header) (past : History) → IsHeader header → IsServed (under header) past → AreEvents header past → NoClash header past
     → IsSound (under header) past
-
--- whether a node has this name below this parent
-abbrev pub has_place : FileId → (name : List ℕ) → Node → Bool
-has_place parent name n = same_file n.parent parent && bytes_eq n.name name
-
--- no two nodes have one name below one parent: none is found among those behind it
-abbrev pub NamesDiffer : List Node → Type 0
-NamesDiffer [] = Unit {0}
-NamesDiffer (n ∷ ns) = (find (has_place n.parent n.name) ns ≡ None) × NamesDiffer ns
