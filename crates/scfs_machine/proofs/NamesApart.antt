@@ -1,21 +1,18 @@
 -- In the tree of every history no two nodes have one name below one parent, and no file has two locks.
-use Rattle.std.proofs.Common.{◌≡◌, ℕ, ◌-◌, ◌+◌, List, [], ◌∷◌, ◌++◌, Bool, true, false, cond, ◌&&◌, refl, sym, ap, ◌∙◌, Option, Some, None, Ok, Err, find, bytes_eq, eqb}
+use Rattle.std.proofs.Common.{◌≡◌, ℕ, ◌-◌, ◌+◌, List, [], ◌∷◌, ◌++◌, Bool, true, false, cond, ◌&&◌, refl, ap, ◌∙◌, Option, Some, None, find, bytes_eq, eqb}
 use Rattle.scfs_base.specs.declared.naming.FileId.{FileId}
 use Rattle.scfs_base.specs.declared.naming.RequestNo.{RequestNo}
 use Rattle.scfs_machine.specs.Lists.{without_first}
-use Rattle.scfs_machine.specs.Names.{same_file}
 use Rattle.scfs_machine.specs.Format.{Setup}
 use Rattle.scfs_machine.specs.History.{History}
 use Rattle.scfs_machine.specs.Versions.{Versions}
-use Rattle.scfs_machine.specs.Tree.{Node, Lock, Tree, live, node_in, is_node_at, is_lock_by}
-use Rattle.scfs_machine.specs.Walks.{OrRefusal}
-use Rattle.scfs_machine.specs.NameSteps.{Make, Look, Name_outcome, Makes, Shows, new_file, nodes_after}
-use Rattle.scfs_machine.specs.LockSteps.{Unlock}
-use Rattle.scfs_machine.specs.SessionSteps.{Session_outcome, session_after, with_version, new_lock}
+use Rattle.scfs_machine.specs.Tree.{Node, Tree, live, node_in, is_node_at}
+use Rattle.scfs_machine.specs.NameSteps.{Make, Look, new_file, nodes_after}
+use Rattle.scfs_machine.specs.SessionSteps.{session_after, with_version}
 use Rattle.scfs_machine.specs.Steps.{Step, On_names, On_locks, On_sessions, after_ok, served}
 use Rattle.scfs_machine.specs.Runs.{state_after}
 use Rattle.scfs_machine.specs.NamesDiffer.{has_place, NamesDiffer, CompletionKeeps}
-use Rattle.scfs_machine.proofs.NewestLists.{Each, Pairs, eqb-comm, each-map, each-always, pairs-append, pairs-without, pairs-filter, pairs-found}
+use Rattle.scfs_machine.proofs.NewestLists.{Each, Pairs, eqb-comm, each-map, each-always, pairs-append, pairs-without, pairs-found}
 use Rattle.scfs_machine.proofs.NamesSteps.{make_cases, look_cases, session_cases}
 use Rattle.scfs_machine.proofs.NamesEvents.{tree_always}
 
@@ -44,7 +41,8 @@ PlacesApart m n = has_place m.parent m.name n ≡ false
 
 places_turned : (m n : Node) → PlacesApart m n → PlacesApart n m
 places_turned m n h =
-    ap (λ t. t && bytes_eq m.name n.name) (eqb-comm m.parent.0 n.parent.0) ∙ ap (λ t. eqb n.parent.0 m.parent.0 && t) (bytes_eq-comm m.name n.name) ∙ h
+    ap (λ t. t && bytes_eq m.name n.name) (eqb-comm m.parent.0 n.parent.0) ∙ ap (λ t. eqb n.parent.0 m.parent.0 && t) (bytes_eq-comm m.name n.name)
+    ∙ h
 
 differ_of_pairs : (ns : List Node) → Pairs PlacesApart ns → NamesDiffer ns
 differ_of_pairs [] h = tt

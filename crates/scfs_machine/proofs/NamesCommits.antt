@@ -1,6 +1,5 @@
 -- A close that was completed had the live lock of its session, and found the file at the version before.
-use Rattle.std.proofs.Common.{◌≡◌, ℕ, ◌-◌, ◌+◌, List, [], ◌∷◌, refl, sym, subst, Option, Some, None, Ok, Err, Contains}
-use Rattle.scfs_base.specs.declared.naming.FileId.{FileId}
+use Rattle.std.proofs.Common.{◌≡◌, ℕ, ◌+◌, List, [], ◌∷◌, Ok, Err}
 use Rattle.scfs_base.specs.declared.naming.RequestNo.{RequestNo}
 use Rattle.scfs_schedule.specs.declared.types.Line.{Line}
 use Rattle.scfs_schedule.specs.declared.types.Line.TheVariants as lines
@@ -8,16 +7,16 @@ use Rattle.scfs_machine.specs.Format.{Setup}
 use Rattle.scfs_machine.specs.History.{Entry, History}
 use Rattle.scfs_machine.specs.Versions.{Versions}
 use Rattle.scfs_machine.specs.Given.{Given, given_of}
-use Rattle.scfs_machine.specs.Tree.{Tree, live, session_lock, node_at}
+use Rattle.scfs_machine.specs.Tree.{Tree, live}
 use Rattle.scfs_machine.specs.Walks.{OrRefusal}
 use Rattle.scfs_machine.specs.NameSteps.{Name_outcome, Makes, Shows, name_line, name_outcome}
 use Rattle.scfs_machine.specs.LockSteps.{Unlock}
 use Rattle.scfs_machine.specs.SessionSteps.{session_line}
 use Rattle.scfs_machine.specs.Steps.{Step, On_names, On_locks, On_sessions, line_of, served, served_line}
-use Rattle.scfs_machine.specs.Agents.{Sent, Input, Tells, Reaction}
+use Rattle.scfs_machine.specs.Agents.{Input, Tells, Reaction}
 use Rattle.scfs_machine.specs.Reactions.{reacted}
 use Rattle.scfs_machine.specs.Events.{place_of}
-use Rattle.scfs_machine.specs.States.{Seat, State, Effect, comes}
+use Rattle.scfs_machine.specs.States.{Seat, State, comes}
 use Rattle.scfs_machine.specs.Runs.{state_after, effect_after, Follows}
 use Rattle.scfs_machine.specs.NamesDiffer.{CompletionKeeps, HeldLock, CommitsHeld, CommitsHeldLocks}
 use Rattle.scfs_machine.proofs.NewestLists.{Each, each-map, each-always, each_of-contains}
@@ -71,7 +70,8 @@ module _ {V : Type 0} (s : Setup) (vs : Versions V) (keeps : CompletionKeeps vs)
       (record {
         nothing = λ shown h. each-map IsIdle (LineHeld tree) (λ l k. of_agent tree l (idle_of_agent l k)) shown h;
         come = λ a seat before input found h k. held_comes tree state given a seat before input h;
-        told = λ a seat oldest rest found h. held_comes tree state given a (record seat { replied = rest }) [] (Tells oldest.number oldest.outcome) tt;
+        told = λ a seat oldest rest found h. held_comes tree state given a (record seat { replied = rest }) []
+            (Tells oldest.number oldest.outcome) tt;
         serve = λ a seat oldest rest found h. (held_step tree state.clock s.header.lease oldest.number oldest.step, tt);
         postpone = λ a seat oldest rest found h. tt;
       })

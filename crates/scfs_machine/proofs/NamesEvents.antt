@@ -34,13 +34,16 @@ module _ {V : Type 0} (s : Setup) (vs : Versions V) (state : State V) (given : G
   -- what each of the four ways has
   pub record Ways : Type 0 where
     pub nothing : (shown : List Line) → Each IsIdle shown → Q (leaving state shown)
-    pub come : (a : ℕ) (seat : Seat V) (before : List Line) (input : Input V) → slice_get state.seats a ≡ Some seat → Each IsIdle before → IsNoReply input
+    pub come : (a : ℕ) (seat : Seat V) (before : List Line) (input : Input V) → slice_get state.seats a ≡ Some seat → Each IsIdle before
+        → IsNoReply input
         → Q (comes s vs state a given before input seat)
     pub told : (a : ℕ) (seat : Seat V) (oldest : Reply V) (rest : List (Reply V)) → slice_get state.seats a ≡ Some seat → seat.replied ≡ oldest ∷ rest
         → Q (comes s vs state a given [] (Tells oldest.number oldest.outcome) (record seat { replied = rest }))
-    pub serve : (a : ℕ) (seat : Seat V) (oldest : Request V) (rest : List (Request V)) → slice_get state.seats a ≡ Some seat → seat.asked ≡ oldest ∷ rest
+    pub serve : (a : ℕ) (seat : Seat V) (oldest : Request V) (rest : List (Request V)) → slice_get state.seats a ≡ Some seat
+        → seat.asked ≡ oldest ∷ rest
         → Q (serves s vs state a seat (oldest ∷ rest))
-    pub postpone : (a : ℕ) (seat : Seat V) (oldest : Request V) (rest : List (Request V)) → slice_get state.seats a ≡ Some seat → seat.asked ≡ oldest ∷ rest
+    pub postpone : (a : ℕ) (seat : Seat V) (oldest : Request V) (rest : List (Request V)) → slice_get state.seats a ≡ Some seat
+        → seat.asked ≡ oldest ∷ rest
         → Q (postpones state a seat (oldest ∷ rest))
 
   module _ (ways : Ways) where
@@ -48,15 +51,18 @@ module _ {V : Type 0} (s : Setup) (vs : Versions V) (state : State V) (given : G
     of_seat None x on h each = h
     of_seat (Some y) x on h each = each y refl
 
-    of_serves : (a : ℕ) (seat : Seat V) (asked : List (Request V)) → slice_get state.seats a ≡ Some seat → seat.asked ≡ asked → Q (serves s vs state a seat asked)
+    of_serves : (a : ℕ) (seat : Seat V) (asked : List (Request V)) → slice_get state.seats a ≡ Some seat → seat.asked ≡ asked
+        → Q (serves s vs state a seat asked)
     of_serves a seat [] found e = ways.nothing _ (tt, tt)
     of_serves a seat (oldest ∷ rest) found e = ways.serve a seat oldest rest found e
 
-    of_postpones : (a : ℕ) (seat : Seat V) (asked : List (Request V)) → slice_get state.seats a ≡ Some seat → seat.asked ≡ asked → Q (postpones state a seat asked)
+    of_postpones : (a : ℕ) (seat : Seat V) (asked : List (Request V)) → slice_get state.seats a ≡ Some seat → seat.asked ≡ asked
+        → Q (postpones state a seat asked)
     of_postpones a seat [] found e = ways.nothing _ (tt, tt)
     of_postpones a seat (oldest ∷ rest) found e = ways.postpone a seat oldest rest found e
 
-    of_tells : (a : ℕ) (seat : Seat V) (replied : List (Reply V)) → slice_get state.seats a ≡ Some seat → seat.replied ≡ replied → Q (tells s vs state a given seat replied)
+    of_tells : (a : ℕ) (seat : Seat V) (replied : List (Reply V)) → slice_get state.seats a ≡ Some seat → seat.replied ≡ replied
+        → Q (tells s vs state a given seat replied)
     of_tells a seat [] found e = ways.nothing _ (tt, tt)
     of_tells a seat (oldest ∷ rest) found e = ways.told a seat oldest rest found e
 
@@ -99,7 +105,8 @@ module _ {V : Type 0} (s : Setup) (vs : Versions V) (state : State V) (given : G
 
 -- what steps keep of the tree, each event keeps, and holds of the first tree, holds after each history
 module _ {V : Type 0} (s : Setup) (vs : Versions V) (T : Tree V → Type 0)
-    (each : (tree : Tree V) (now lease : ℕ) (request : RequestNo) (step : Step V) → T tree → T (served vs (live now tree) now lease request step).tree) where
+    (each : (tree : Tree V) (now lease : ℕ) (request : RequestNo) (step : Step V) → T tree → T
+    (served vs (live now tree) now lease request step).tree) where
   pub tree_always : T empty_tree → (past : History) → T (state_after s vs past).tree
   tree_always first [] = first
   tree_always first (e ∷ past) =

@@ -1,19 +1,16 @@
 -- In the tree of every history no file has two locks, and a close that was completed had its lock.
-use Rattle.std.proofs.Common.{◌≡◌, ℕ, ◌-◌, ◌+◌, List, [], ◌∷◌, ◌++◌, Bool, true, false, refl, sym, subst, ◌∙◌, Option, Some, None, Ok, Err, find, filter, not, nat_lt, eqb, Contains}
-use Rattle.scfs_base.specs.declared.naming.FileId.{FileId}
+use Rattle.std.proofs.Common.{◌≡◌, ℕ, ◌+◌, List, [], ◌∷◌, ◌++◌, false, ◌∙◌, None, not, nat_lt, eqb}
 use Rattle.scfs_base.specs.declared.naming.RequestNo.{RequestNo}
-use Rattle.scfs_machine.specs.Lists.{without_first}
 use Rattle.scfs_machine.specs.Format.{Setup}
 use Rattle.scfs_machine.specs.History.{History}
 use Rattle.scfs_machine.specs.Versions.{Versions}
-use Rattle.scfs_machine.specs.Tree.{Node, Lock, Tree, live, lock_on, is_lock_by}
-use Rattle.scfs_machine.specs.NameSteps.{Make, Look}
+use Rattle.scfs_machine.specs.Tree.{Lock, Tree, live, lock_on, is_lock_by}
 use Rattle.scfs_machine.specs.LockSteps.{Unlock}
-use Rattle.scfs_machine.specs.SessionSteps.{Session_outcome, session_after, new_lock}
+use Rattle.scfs_machine.specs.SessionSteps.{session_after, new_lock}
 use Rattle.scfs_machine.specs.Steps.{Step, On_names, On_locks, On_sessions, after_ok, served}
 use Rattle.scfs_machine.specs.Runs.{state_after}
 use Rattle.scfs_machine.specs.NamesDiffer.{LocksAlone}
-use Rattle.scfs_machine.proofs.NewestLists.{Each, Pairs, eqb-comm, each-map, each-always, pairs-append, pairs-without, pairs-filter}
+use Rattle.scfs_machine.proofs.NewestLists.{Pairs, eqb-comm, each-map, each-always, pairs-append, pairs-without, pairs-filter}
 use Rattle.scfs_machine.proofs.NamesSteps.{session_cases}
 use Rattle.scfs_machine.proofs.NamesEvents.{tree_always}
 use Rattle.scfs_machine.proofs.NamesApart.{fails_at_each, finds_nothing}

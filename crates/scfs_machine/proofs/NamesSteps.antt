@@ -63,7 +63,8 @@ module _ {V : Type 0} (vs : Versions V) (tree : Tree V) (now until : ℕ) (reque
   locks_case session (Err why) q each = refused why
 
   completes_case : (session : ℕ) (v : V) (l : Option Lock) (n : Option Node)
-      → ((lock : Lock) (node : Node) → l ≡ Some lock → n ≡ Some node → P (Ok (Completes session (vs.completed v now) (with_version vs node (vs.completed v now)))))
+      → ((lock : Lock) (node : Node) → l ≡ Some lock → n ≡ Some node → P (Ok
+      (Completes session (vs.completed v now) (with_version vs node (vs.completed v now)))))
       → P (on_ok (λ m. Completes session (vs.completed v now) (with_version vs m (vs.completed v now))) (still_held l n))
   completes_case session v None n each = refused _
   completes_case session v (Some l) None each = refused _
@@ -73,11 +74,13 @@ module _ {V : Type 0} (vs : Versions V) (tree : Tree V) (now until : ℕ) (reque
   pub session_cases :
       ((n : Node) → Q n → P (Ok (Sees (sight_of vs tree n))))
       → ((session : ℕ) (n : Node) → Q n → lock_on tree.locks n.id ≡ None → P (Ok (Locks (sight_of vs tree n) (new_lock request session until n.id))))
-      → ((session : ℕ) (v : V) (l : Lock) (n : Node) → session_lock tree.locks request (vs.file v) session ≡ Some l → node_at tree.nodes (vs.file v) (vs.number v - 1) ≡ Some n
+      → ((session : ℕ) (v : V) (l : Lock) (n : Node) → session_lock tree.locks request (vs.file v) session ≡ Some l → node_at tree.nodes (vs.file v)
+      (vs.number v - 1) ≡ Some n
       → P (Ok (Completes session (vs.completed v now) (with_version vs n (vs.completed v now)))))
       → (x : Session_step V) → P (session_outcome vs tree now until request x)
   session_cases sees locks completes (Open_read names session) = sees_case (file_at tree.nodes names) (file_is names) sees
   session_cases sees locks completes (Open_write names session) =
       locks_case session (free_file_at tree.nodes tree.locks names) (free_file_is names) (locks session)
   session_cases sees locks completes (Commit session v) =
-      completes_case session v (session_lock tree.locks request (vs.file v) session) (node_at tree.nodes (vs.file v) (vs.number v - 1)) (completes session v)
+      completes_case session v (session_lock tree.locks request (vs.file v) session) (node_at tree.nodes (vs.file v) (vs.number v - 1))
+      (completes session v)

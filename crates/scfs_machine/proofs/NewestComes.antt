@@ -1,5 +1,5 @@
 -- What is known of a seat stays known when an input comes to its agent.
-use Rattle.std.proofs.Common.{◌≡◌, ℕ, ◌+◌, ◌*◌, ◌^◌, ◌<◌, ◌≤◌, List, [], ◌∷◌, ◌++◌, map, length, Bool, false, refl, sym, subst, ap, ◌∙◌, Option, Some, None, fold, arith, le_refl, le_trans, zero-le}
+use Rattle.std.proofs.Common.{◌≡◌, ℕ, ◌*◌, ◌^◌, ◌≤◌, List, [], ◌∷◌, ◌++◌, map, length, false, refl, sym, subst, ap, ◌∙◌, Option, fold, arith, le_refl, le_trans, zero-le}
 use Rattle.std.specs.List.{list_any}
 use Rattle.scfs_base.specs.declared.naming.RequestNo.{RequestNo}
 use Rattle.scfs_schedule.specs.declared.types.Line.{Line}
@@ -10,14 +10,14 @@ use Rattle.scfs_machine.specs.Given.{Given}
 use Rattle.scfs_machine.specs.Tree.{Node}
 use Rattle.scfs_machine.specs.NameSteps.{Make, Look}
 use Rattle.scfs_machine.specs.Steps.{Step, On_names, On_locks, On_sessions}
-use Rattle.scfs_machine.specs.Sayings.{Saying, said_by}
-use Rattle.scfs_machine.specs.Agents.{Agent, Request, Input, Reaction, Sent}
+use Rattle.scfs_machine.specs.Sayings.{said_by}
+use Rattle.scfs_machine.specs.Agents.{Request, Input, Reaction, Sent}
 use Rattle.scfs_machine.specs.Reactions.{reacted}
-use Rattle.scfs_machine.specs.States.{Reply, Seat, State, comes, request_line}
+use Rattle.scfs_machine.specs.States.{Seat, State, comes, request_line}
 use Rattle.scfs_machine.specs.Newest.{Saw_line, is_service, after_saw, latest_saw}
-use Rattle.scfs_machine.proofs.NewestLists.{Each, Pairs, each-map, each-append, each-always, pairs-join}
+use Rattle.scfs_machine.proofs.NewestLists.{Each, each-map, each-append, each-always, pairs-join}
 use Rattle.scfs_machine.proofs.NewestDraws.{MakesIn, Apart, IsDrawn, base_of, makes_wider, makes_apart}
-use Rattle.scfs_machine.proofs.NewestKept.{WaitOk, ReplyOk, InputOk, Whole, SayOk, after_says, wait_map, reply_map}
+use Rattle.scfs_machine.proofs.NewestKept.{WaitOk, InputOk, Whole, SayOk, after_says, wait_map, reply_map}
 use Rattle.scfs_machine.proofs.NewestWalk.{whole_reacted}
 use Rattle.scfs_machine.proofs.NewestTree.{MakesNew, IsNot}
 use Rattle.scfs_machine.proofs.NewestLines.{IsOfAgent, IsNoSawBy, idle_of_agent, said_of_agent, request_of_agent, each-did, no_services, no_saws}
@@ -35,15 +35,18 @@ module _ {V : Type 0} where
   drawn_new a base f f2 nodes (On_locks x) e small ahead k = tt
   drawn_new a base f f2 nodes (On_sessions x) e small ahead k = tt
 
-  drawn_within : (a drawn drawn2 files files2 : ℕ) → drawn ≤ drawn2 → files ≤ files2 → (x : Request V) → IsAsked a drawn files x → IsAsked a drawn2 files2 x
+  drawn_within : (a drawn drawn2 files files2 : ℕ) → drawn ≤ drawn2 → files ≤ files2 → (x : Request V) → IsAsked a drawn files x
+      → IsAsked a drawn2 files2 x
   drawn_within a drawn drawn2 files files2 l m x k =
       (k.0, omega (arith, k.1), makes_wider (a * 2 ^ 56) 0 files (a * 2 ^ 56) 0 files2 x.step refl (le_refl _) m k.2)
 
-  drawn_asked : (a base drawn drawn2 files files2 : ℕ) → base ≡ a * 2 ^ 56 → (x : Request V) → IsDrawn a base drawn drawn2 files files2 x → IsAsked a drawn2 files2 x
+  drawn_asked : (a base drawn drawn2 files files2 : ℕ) → base ≡ a * 2 ^ 56 → (x : Request V) → IsDrawn a base drawn drawn2 files files2 x
+      → IsAsked a drawn2 files2 x
   drawn_asked a base drawn drawn2 files files2 e x k =
       (k.0, k.2, makes_wider base files files2 (a * 2 ^ 56) 0 files2 x.step e zero-le (le_refl _) k.3)
 
-  drawn_apart : (a base drawn drawn2 files files2 : ℕ) → base ≡ a * 2 ^ 56 → (x y : Request V) → IsAsked a drawn files x → IsDrawn a base drawn drawn2 files files2 y → Apart x y
+  drawn_apart : (a base drawn drawn2 files files2 : ℕ) → base ≡ a * 2 ^ 56 → (x y : Request V) → IsAsked a drawn files x
+      → IsDrawn a base drawn drawn2 files files2 y → Apart x y
   drawn_apart a base drawn drawn2 files files2 e x y h k =
       (λ same. omega (arith, h.1, k.1), makes_apart (a * 2 ^ 56) 0 files base files files2 x.step y.step (sym e) (le_refl _) h.2 k.3)
 
@@ -57,11 +60,13 @@ module _ {V : Type 0} (vs : Versions V) (past : History) (e : Entry) (nodes : Li
 
   stays : (request : RequestNo) → IsServed a q seat.asked request
       → (list_any (is_service request) e.lines ≡ false) × IsServed a r.agent.requests (seat.asked ++ r.steps) request
-  stays request k =
-      (no_services request e.lines unserved,
-      (k.0, le_trans k.1 whole.0.1, each-append _ seat.asked r.steps k.2 (each-map _ _ (λ x d same. omega (arith, d.1, k.1)) r.steps whole.0.4)))
+  stays request k = (
+    no_services request e.lines unserved,
+    (k.0, le_trans k.1 whole.0.1, each-append _ seat.asked r.steps k.2 (each-map _ _ (λ x d same. omega (arith, d.1, k.1)) r.steps whole.0.4)),
+  )
 
-  on : (saw : Saw_line) (number : ℕ) → KnownBy past a q seat.asked saw number → KnownBy (e ∷ past) a r.agent.requests (seat.asked ++ r.steps) saw number
+  on : (saw : Saw_line) (number : ℕ) → KnownBy past a q seat.asked saw number
+      → KnownBy (e ∷ past) a r.agent.requests (seat.asked ++ r.steps) saw number
   on = known_on past e a q r.agent.requests seat.asked (seat.asked ++ r.steps) stays
 
   base_is : base_of a seat.agent ≡ a * 2 ^ 56
@@ -81,13 +86,15 @@ module _ {V : Type 0} (vs : Versions V) (past : History) (e : Entry) (nodes : Li
             (omega (arith, whole.0.3, h.files, small)) h.ahead k.3) r.steps whole.0.4);
         apart = pairs-join Apart seat.asked r.steps h.apart whole.0.5
             (each-map _ _ (λ x k. each-map _ _ (λ y l.
-            drawn_apart a (base_of a seat.agent) q r.agent.requests seat.agent.files r.agent.files base_is x y k l) r.steps whole.0.4) seat.asked h.drawn);
+            drawn_apart a (base_of a seat.agent) q r.agent.requests seat.agent.files r.agent.files base_is x y k l)
+            r.steps whole.0.4) seat.asked h.drawn);
         replied = each-map _ _ (λ y. reply_map vs a _ _ on y.number y.outcome) seat.replied h.replied;
         waiting = subst (λ x. WaitOk vs a (KnownBy (e ∷ past) a r.agent.requests (seat.asked ++ r.steps)) x r.agent.waiting)
             (sym final) (wait_map vs a _ _ on (after_says (latest_saw a past) r.says) r.agent.waiting whole.2);
       }
 
-module _ {V : Type 0} (s : Setup) (vs : Versions V) (past : History) (e : Entry) (nodes : List Node) (state : State V) (a : ℕ) (seat : Seat V) (given : Given)
+module _ {V : Type 0} (s : Setup) (vs : Versions V) (past : History) (e : Entry) (nodes : List Node) (state : State V) (a : ℕ) (seat : Seat V)
+    (given : Given)
     (before : List Line) (input : Input V) (idle : Each IsIdle before)
     (same : e.lines ≡ (comes s vs state a given before input seat).lines) (small : length (e ∷ past) ≤ 2 ^ 32)
     (h : SeatOk vs past nodes a seat) (fits : InputOk vs a (KnownBy past a seat.agent.requests seat.asked) input) where

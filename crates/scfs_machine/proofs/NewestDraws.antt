@@ -1,13 +1,9 @@
 -- What a reaction draws, and that it keeps what is known of an agent's open.
-use Rattle.std.proofs.Common.{◌≡◌, ℕ, ◌+◌, ◌*◌, ◌^◌, ◌<◌, ◌≤◌, List, [], ◌∷◌, ◌++◌, fold, refl, Option, Some, None, arith, le_refl, le-add_right, sym}
+use Rattle.std.proofs.Common.{◌≡◌, ℕ, ◌+◌, ◌*◌, ◌^◌, ◌<◌, ◌≤◌, refl, arith, le_refl, le-add_right, sym}
 use Rattle.scfs_base.specs.declared.naming.FileId.{FileId}
-use Rattle.scfs_machine.specs.Versions.{Versions}
 use Rattle.scfs_machine.specs.NameSteps.{Make, Look}
 use Rattle.scfs_machine.specs.Steps.{Step, On_names, On_locks, On_sessions}
-use Rattle.scfs_machine.specs.Sayings.{Saying}
-use Rattle.scfs_machine.specs.Sayings as says
-use Rattle.scfs_machine.specs.Agents.{Opening, Waiting, For_step, For_clouds, For_close, Request, Agent, Reaction, silent, asks_step, followed}
-use Rattle.scfs_machine.specs.Newest.{Saw_line, IsFrom}
+use Rattle.scfs_machine.specs.Agents.{Request, Agent, Reaction, silent, asks_step, followed}
 use Rattle.scfs_machine.proofs.NewestLists.{Each, Pairs, each-map, each-append, pairs-join}
 
 -- an id of a file between two counts
@@ -80,14 +76,18 @@ module _ {V : Type 0} (a : ℕ) where
   draws-followed k g first next h n =
       let m : Agent V = first.agent in
       let l : Agent V = (next first.agent).agent in
-      let same : base_of m ≡ base_of g = omega (arith, h.0) in
-      (omega (arith, n.0, h.0), omega (arith, n.1, h.1), omega (arith, n.2, h.2), omega (arith, n.3, h.3),
-      each-append _ first.steps (next first.agent).steps
-      (each-map _ _ (drawn_wider (base_of g) (base_of g) g.requests m.requests g.files m.files g.requests l.requests g.files l.files
-      refl (le_refl _) n.1 (le_refl _) n.2) first.steps h.4)
-      (each-map _ _ (drawn_wider (base_of m) (base_of g) m.requests l.requests m.files l.files g.requests l.requests g.files l.files
-      same h.1 (le_refl _) h.2 (le_refl _)) (next first.agent).steps n.4),
-      pairs-join Apart first.steps (next first.agent).steps h.5 n.5
-      (each-map _ _ (λ x hx. each-map _ _ (λ y hy.
-      drawn_apart (base_of g) (base_of m) g.requests m.requests g.files m.files m.requests l.requests m.files l.files
-      (sym same) (le_refl _) (le_refl _) x y hx hy) (next first.agent).steps n.4) first.steps h.4))
+      let same : base_of m ≡ base_of g = omega (arith, h.0) in (
+        omega (arith, n.0, h.0),
+        omega (arith, n.1, h.1),
+        omega (arith, n.2, h.2),
+        omega (arith, n.3, h.3),
+        each-append _ first.steps (next first.agent).steps
+            (each-map _ _ (drawn_wider (base_of g) (base_of g) g.requests m.requests g.files m.files g.requests l.requests g.files l.files
+            refl (le_refl _) n.1 (le_refl _) n.2) first.steps h.4)
+            (each-map _ _ (drawn_wider (base_of m) (base_of g) m.requests l.requests m.files l.files g.requests l.requests g.files l.files
+            same h.1 (le_refl _) h.2 (le_refl _)) (next first.agent).steps n.4),
+        pairs-join Apart first.steps (next first.agent).steps h.5 n.5
+            (each-map _ _ (λ x hx. each-map _ _ (λ y hy.
+            drawn_apart (base_of g) (base_of m) g.requests m.requests g.files m.files m.requests l.requests m.files l.files
+            (sym same) (le_refl _) (le_refl _) x y hx hy) (next first.agent).steps n.4) first.steps h.4),
+      )

@@ -1,7 +1,6 @@
 -- What is known of an agent's open in progress, by its latest saw line, and reactions that keep it.
-use Rattle.std.proofs.Common.{◌≡◌, ℕ, List, [], ◌∷◌, ◌++◌, fold, Bool, true, false, cond, refl, ap, subst, sym, ◌∙◌, Option, Some, None, Ok, Err, arith}
+use Rattle.std.proofs.Common.{◌≡◌, ℕ, List, [], ◌∷◌, ◌++◌, fold, refl, subst, sym, ◌∙◌, Option, Some, None, Ok, Err}
 use Rattle.scfs_base.specs.declared.naming.RequestNo.{RequestNo}
-use Rattle.scfs_schedule.specs.declared.types.Src.{Src}
 use Rattle.scfs_machine.specs.Versions.{Versions}
 use Rattle.scfs_machine.specs.SessionSteps.{Sight, Session_outcome, Sees, Locks, Completes}
 use Rattle.scfs_machine.specs.Steps.{Step, Outcome, Of_names, Of_locks, Of_sessions}
@@ -73,7 +72,8 @@ module _ {V : Type 0} (vs : Versions V) (a : ℕ) (K : Saw_line → (number : �
   -- what is known of a sight that is told
   abbrev pub SightOk : RequestNo → Sight V → Type 0
   SightOk request sight =
-      (request.agent ≡ a) × K (record { request = request; file = sight.file; number = sight.number }) sight.number × VersionOk vs sight.number sight.version
+      (request.agent ≡ a) × K (record { request = request; file = sight.file; number = sight.number }) sight.number
+      × VersionOk vs sight.number sight.version
 
   abbrev pub ToldOk : RequestNo → Session_outcome V → Type 0
   ToldOk request (Sees sight) = SightOk request sight
@@ -113,24 +113,28 @@ module _ {V : Type 0} (vs : Versions V) (a : ℕ) (K : Saw_line → (number : �
   quiet_ok latest (says.Stored session number) h = tt
   quiet_ok latest (says.Refused why) h = tt
 
-  pub whole_of-steady : (k : ℕ) (latest : Option Saw_line) (g : Agent V) (r : Reaction V) → WaitOk latest g.waiting → Steady k g r → Whole k latest g r
+  pub whole_of-steady : (k : ℕ) (latest : Option Saw_line) (g : Agent V) (r : Reaction V) → WaitOk latest g.waiting → Steady k g r
+      → Whole k latest g r
   whole_of-steady k latest g r w h =
-      let same : after_says latest r.says ≡ latest = after_quiet latest r.says h.1 in
-      (h.0, each-map _ _ (quiet_ok (after_says latest r.says)) r.says h.1,
-      subst (λ x. WaitOk x r.agent.waiting) (sym same) (h.2 latest w))
+      let same : after_says latest r.says ≡ latest = after_quiet latest r.says h.1 in (
+        h.0,
+        each-map _ _ (quiet_ok (after_says latest r.says)) r.says h.1,
+        subst (λ x. WaitOk x r.agent.waiting) (sym same) (h.2 latest w),
+      )
 
   pub whole-followed : (k : ℕ) (latest : Option Saw_line) (g : Agent V) (first : Reaction V) (next : Agent V → Reaction V)
       → Whole k latest g first → Steady 0 first.agent (next first.agent) → Whole k latest g (followed first next)
   whole-followed k latest g first next h n =
       let second : Reaction V = next first.agent in
       let same : after_says latest (first.says ++ second.says) ≡ after_says latest first.says =
-          after-append latest first.says second.says ∙ after_quiet (after_says latest first.says) second.says n.1
-      in
-      (draws-followed a k g first next h.0 n.0,
-      each-append _ first.says second.says
-      (subst (λ x. Each (SayOk x) first.says) (sym same) h.1)
-      (each-map _ _ (quiet_ok (after_says latest (first.says ++ second.says))) second.says n.1),
-      subst (λ x. WaitOk x second.agent.waiting) (sym same) (n.2 (after_says latest first.says) h.2))
+      after-append latest first.says second.says ∙ after_quiet (after_says latest first.says) second.says n.1
+      in (
+        draws-followed a k g first next h.0 n.0,
+        each-append _ first.says second.says
+            (subst (λ x. Each (SayOk x) first.says) (sym same) h.1)
+            (each-map _ _ (quiet_ok (after_says latest (first.says ++ second.says))) second.says n.1),
+        subst (λ x. WaitOk x second.agent.waiting) (sym same) (n.2 (after_says latest first.says) h.2),
+      )
 
   pub steady-followed : (k : ℕ) (g : Agent V) (first : Reaction V) (next : Agent V → Reaction V)
       → Steady k g first → Steady 0 first.agent (next first.agent) → Steady k g (followed first next)
@@ -150,7 +154,8 @@ module _ {V : Type 0} (vs : Versions V) (a : ℕ) (K : Saw_line → (number : �
   steady_step k g step h = (draws_step a k g step h, tt, λ latest w. w)
 
 -- what is known stays so where it is known otherwise too
-module _ {V : Type 0} (vs : Versions V) (a : ℕ) (K L : Saw_line → (number : ℕ) → Type 0) (to : (saw : Saw_line) (number : ℕ) → K saw number → L saw number) where
+module _ {V : Type 0} (vs : Versions V) (a : ℕ) (K L : Saw_line → (number : ℕ) → Type 0)
+    (to : (saw : Saw_line) (number : ℕ) → K saw number → L saw number) where
   known_map : (latest : Option Saw_line) (number : ℕ) → Known vs a K latest number → Known vs a L latest number
   known_map None number h = h
   known_map (Some saw) number h = to saw number h

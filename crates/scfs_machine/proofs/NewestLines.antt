@@ -1,5 +1,5 @@
 -- Which lines an event has: those of an agent commit nothing and serve nothing.
-use Rattle.std.proofs.Common.{◌≡◌, ℕ, List, [], ◌∷◌, ◌++◌, map, Bool, false, ◌||◌, fold, refl, sym, ap, ◌∙◌, Option, Some, None, eqb, cond, if◌then◌else◌}
+use Rattle.std.proofs.Common.{◌≡◌, ℕ, List, [], ◌∷◌, ◌++◌, map, false, ◌||◌, fold, refl, ap, ◌∙◌, Option, Some, cond}
 use Rattle.std.specs.List.{list_any}
 use Rattle.scfs_base.specs.declared.naming.FileId.{FileId}
 use Rattle.scfs_base.specs.declared.naming.RequestNo.{RequestNo}
@@ -7,14 +7,13 @@ use Rattle.scfs_base.specs.declared.cloud.CloudRequest.{CloudRequest}
 use Rattle.scfs_base.specs.declared.cloud.CloudRequest.TheVariants as requests
 use Rattle.scfs_schedule.specs.declared.types.Line.{Line}
 use Rattle.scfs_schedule.specs.declared.types.Line.TheVariants as lines
-use Rattle.scfs_machine.specs.Names.{same_request}
 use Rattle.scfs_machine.specs.Format.{Setup}
 use Rattle.scfs_machine.specs.Sayings.{Saying, said_by}
 use Rattle.scfs_machine.specs.Sayings as says
-use Rattle.scfs_machine.specs.Agents.{Sent, Reaction}
+use Rattle.scfs_machine.specs.Agents.{Sent}
 use Rattle.scfs_machine.specs.States.{request_line}
 use Rattle.scfs_machine.specs.Newest.{after_commit, is_service, Saw_line, after_saw}
-use Rattle.scfs_machine.proofs.NewestLists.{Each, each-append, each-map, eqb-apart}
+use Rattle.scfs_machine.proofs.NewestLists.{Each, each-append, eqb-apart}
 use Rattle.scfs_machine.proofs.NamesEvents.{IsIdle}
 
 -- a line that commits nothing
@@ -68,6 +67,7 @@ each-did P s a before said sent h k each =
     all_said : (xs : List Saying) → Each (λ x. P (said_by a x)) xs → Each P (map (said_by a) xs)
     all_said [] g = tt
     all_said (x ∷ xs) g = (g.0, all_said xs g.1)
+
     all_sent : (xs : List Sent) → Each P (map (λ (x : Sent). request_line s x.number x.cloud x.body) xs)
     all_sent [] = tt
     all_sent (x ∷ xs) = (each x, all_sent xs)

@@ -1,5 +1,5 @@
 -- Lists: what holds of each item, and of each two; seats by their numbers.
-use Rattle.std.proofs.Common.{◌≡◌, ℕ, zero, suc, ◌+◌, ◌<◌, List, [], ◌∷◌, ◌++◌, length, replicate, Bool, true, false, cond, refl, sym, subst, Option, Some, None, slice_get, slice_set, find, filter, Contains, eqb, arith}
+use Rattle.std.proofs.Common.{◌≡◌, ℕ, zero, suc, List, [], ◌∷◌, ◌++◌, replicate, Bool, true, false, cond, sym, subst, Option, Some, slice_get, slice_set, find, filter, Contains, eqb, arith}
 use Rattle.std.proofs.lemmas.Bool.Decides.{nat_tests}
 use Rattle.scfs_machine.specs.Lists.{without_first, moved_back}
 

@@ -1,25 +1,25 @@
 -- What is known of seats stays known when a step is served.
-use Rattle.std.proofs.Common.{◌≡◌, ℕ, ◌+◌, ◌*◌, ◌^◌, ◌<◌, ◌≤◌, List, [], ◌∷◌, ◌++◌, length, Bool, false, true, cond, ◌||◌, refl, sym, subst, ap, ◌∙◌, Option, Some, None, Ok, Err, fold, arith, le_trans}
+use Rattle.std.proofs.Common.{◌≡◌, ℕ, ◌+◌, ◌^◌, ◌≤◌, List, [], ◌∷◌, ◌++◌, length, false, cond, ◌||◌, refl, sym, subst, ap, ◌∙◌, Some, Ok, Err, arith, le_trans}
 use Rattle.std.specs.List.{list_any}
 use Rattle.scfs_base.specs.declared.naming.RequestNo.{RequestNo}
 use Rattle.scfs_schedule.specs.declared.types.Line.{Line}
 use Rattle.scfs_machine.specs.Names.{same_request}
 use Rattle.scfs_machine.specs.History.{Entry, History}
 use Rattle.scfs_machine.specs.Versions.{Versions}
-use Rattle.scfs_machine.specs.Tree.{Node, Tree}
+use Rattle.scfs_machine.specs.Tree.{Tree}
 use Rattle.scfs_machine.specs.Walks.{OrRefusal}
 use Rattle.scfs_machine.specs.LockSteps.{Unlock}
 use Rattle.scfs_machine.specs.SessionSteps.{Sight, Session_step, Session_outcome, Sees, Locks, Completes, session_outcome}
-use Rattle.scfs_machine.specs.Steps.{Step, On_names, On_locks, On_sessions, Outcome, Of_names, Of_locks, Of_sessions, Served, served}
+use Rattle.scfs_machine.specs.Steps.{Step, On_names, On_locks, On_sessions, Of_sessions, Served, served}
 use Rattle.scfs_machine.specs.Agents.{Request}
-use Rattle.scfs_machine.specs.States.{Reply, Seat}
+use Rattle.scfs_machine.specs.States.{Seat}
 use Rattle.scfs_machine.specs.NamesDiffer.{CompletionKeeps}
 use Rattle.scfs_machine.specs.Newest.{Saw_line, is_service, before_service, last_committed, latest_saw}
-use Rattle.scfs_machine.proofs.NewestLists.{Each, Pairs, each-map, each-two, each-append}
-use Rattle.scfs_machine.proofs.NewestDraws.{MakesIn, FilesApart, Apart}
-use Rattle.scfs_machine.proofs.NewestKept.{VersionOk, SightOk, ReplyOk, WaitOk, wait_map, reply_map}
+use Rattle.scfs_machine.proofs.NewestLists.{Each, each-map, each-two, each-append}
+use Rattle.scfs_machine.proofs.NewestDraws.{Apart}
+use Rattle.scfs_machine.proofs.NewestKept.{SightOk, ReplyOk, WaitOk, wait_map, reply_map}
 use Rattle.scfs_machine.proofs.NewestTree.{MakesNew, TreeOk}
-use Rattle.scfs_machine.proofs.NewestServes.{IsOfStep, OfMade, line_at, serve_ids, serve_line, SeenAt, SeenBy, serve_seen}
+use Rattle.scfs_machine.proofs.NewestServes.{IsOfStep, line_at, serve_ids, serve_line, SeenAt, SeenBy, serve_seen}
 use Rattle.scfs_machine.proofs.NewestLines.{IsNoSawBy, no_saws}
 use Rattle.scfs_machine.proofs.NewestSeats.{NotAhead, IsServed, KnownBy, IsAsked, known_on, SeatOk, seat_stays}
 use Rattle.scfs_machine.proofs.NewestServed.{other_agent, other_number, serves_other, one_unseen, made_behind, made_elsewhere, elsewhere_apart, still_new}
@@ -57,21 +57,33 @@ module _ {V : Type 0} (vs : Versions V) (keeps : CompletionKeeps vs) (past : His
   module _ (committed : TreeOk vs (λ id. last_committed id past) tree.nodes tree.versions) where
     sight_known : (sight : Sight V) → SeenAt vs keeps tree now lease oldest.number (λ id. last_committed id past) committed l sight
         → SightOk vs a (KnownBy (e ∷ past) a q rest) oldest.number sight
-    sight_known sight k =
-        (h.drawn.0.0,
-        ((refl, (past, ap (λ xs. cond (list_any (is_service oldest.number) xs) (Some past) (before_service oldest.number past)) same
-        ∙ ap (λ b. cond (b || false) (Some past) (before_service oldest.number past)) k.2, k.0)),
-        (h.drawn.0.0, h.drawn.0.1, each-map _ _ (λ y apart e2. apart.0 (sym e2)) rest h.apart.0)),
-        k.1)
+    sight_known sight k = (
+      h.drawn.0.0,
+      (
+        (
+          refl,
+          (
+            past,
+            ap (λ xs. cond (list_any (is_service oldest.number) xs) (Some past) (before_service oldest.number past)) same
+                ∙ ap (λ b. cond (b || false) (Some past) (before_service oldest.number past)) k.2,
+            k.0,
+          ),
+        ),
+        (h.drawn.0.0, h.drawn.0.1, each-map _ _ (λ y apart e2. apart.0 (sym e2)) rest h.apart.0),
+      ),
+      k.1,
+    )
 
-    reply_seen : (y : Session_step V) (r : OrRefusal (Session_outcome V)) → SeenBy vs keeps tree now lease oldest.number (λ id. last_committed id past) committed l r
+    reply_seen : (y : Session_step V) (r : OrRefusal (Session_outcome V))
+        → SeenBy vs keeps tree now lease oldest.number (λ id. last_committed id past) committed l r
         → ReplyOk vs a (KnownBy (e ∷ past) a q rest) oldest.number (Of_sessions y r)
     reply_seen y (Ok (Sees sight)) k = sight_known sight k
     reply_seen y (Ok (Locks sight lock)) k = sight_known sight k
     reply_seen y (Ok (Completes session v n)) k = tt
     reply_seen y (Err why) k = tt
 
-    seen_step : (step : Step V) → (step ≡ oldest.step) → ReplyOk vs a (KnownBy (e ∷ past) a q rest) oldest.number (served vs tree now lease oldest.number step).outcome
+    seen_step : (step : Step V) → (step ≡ oldest.step)
+        → ReplyOk vs a (KnownBy (e ∷ past) a q rest) oldest.number (served vs tree now lease oldest.number step).outcome
     seen_step (On_names y) is = tt
     seen_step (On_locks (Unlock file session)) is = tt
     seen_step (On_sessions y) is =
@@ -90,7 +102,8 @@ module _ {V : Type 0} (vs : Versions V) (keeps : CompletionKeeps vs) (past : His
           ahead = serve_ids vs keeps tree now lease oldest.number (NotAhead a seat.agent.files) oldest.step h.ahead
               (made_behind a q seat.agent.files oldest h.drawn.0);
           drawn = h.drawn.1;
-          new = each-two (λ (y : Request V). Apart oldest y) (λ (y : Request V). MakesNew tree.nodes y.step) (λ (y : Request V). MakesNew x.tree.nodes y.step)
+          new = each-two (λ (y : Request V). Apart oldest y) (λ (y : Request V). MakesNew tree.nodes y.step)
+              (λ (y : Request V). MakesNew x.tree.nodes y.step)
               (λ y apart k. still_new vs keeps tree now lease oldest.number oldest.step y.step apart.1 k) rest h.apart.0 h.new.1;
           apart = h.apart.1;
           replied = each-append _ seat.replied ((record { number = oldest.number; outcome = x.outcome }) ∷ [])
@@ -106,9 +119,11 @@ module _ {V : Type 0} (vs : Versions V) (keeps : CompletionKeeps vs) (past : His
       seat_stays vs past e tree.nodes x.tree.nodes b y g
       (serve_ids vs keeps tree now lease oldest.number (NotAhead b y.agent.files) oldest.step g.ahead
       (made_elsewhere a b seat.agent.files y.agent.files oldest.step other (le_trans h.files small) h.drawn.0.2))
-      (each-two (λ (z : Request V). IsAsked b y.agent.requests y.agent.files z) (λ (z : Request V). MakesNew tree.nodes z.step) (λ (z : Request V). MakesNew x.tree.nodes z.step)
+      (each-two (λ (z : Request V). IsAsked b y.agent.requests y.agent.files z) (λ (z : Request V). MakesNew tree.nodes z.step)
+      (λ (z : Request V). MakesNew x.tree.nodes z.step)
       (λ z k new. still_new vs keeps tree now lease oldest.number oldest.step z.step
-      (elsewhere_apart a b seat.agent.files y.agent.files oldest.step z.step other (le_trans h.files small) (le_trans g.files small) h.drawn.0.2 k.2) new)
+      (elsewhere_apart a b seat.agent.files y.agent.files oldest.step z.step other (le_trans h.files small)
+      (le_trans g.files small) h.drawn.0.2 k.2) new)
       y.asked g.drawn g.new)
       (λ request k. unserved request (other_agent oldest.number request (λ e2. other (sym k ∙ (sym e2 ∙ h.drawn.0.0)))))
       (unseen b)

@@ -1,5 +1,5 @@
 -- A run without its newest event is a run; what the words of specs/Newest are in a run that was played.
-use Rattle.std.proofs.Common.{◌≡◌, ℕ, List, [], ◌∷◌, length, refl, Option, Some, None, option_map}
+use Rattle.std.proofs.Common.{◌≡◌, [], ◌∷◌, length, refl, Some, option_map}
 use Rattle.scfs_base.specs.Words.{hex_pair}
 use Rattle.scfs_machine.specs.Names.{request_no, file_id}
 use Rattle.scfs_machine.specs.Format.{Setup}

@@ -1,6 +1,5 @@
 -- Lines of an agent's reaction: its opened lines are of the newest versions where what it says is known.
-use Rattle.std.proofs.Common.{◌≡◌, ℕ, ◌+◌, ◌*◌, ◌^◌, ◌<◌, ◌≤◌, List, [], ◌∷◌, ◌++◌, map, length, Bool, false, true, cond, refl, sym, subst, ap, ◌∙◌, Option, Some, None, fold, arith, eqb, eq-eqb, le_refl}
-use Rattle.std.specs.List.{list_any}
+use Rattle.std.proofs.Common.{◌≡◌, ℕ, List, [], ◌∷◌, ◌++◌, map, cond, refl, sym, ap, ◌∙◌, Option, Some, None, fold, eq-eqb}
 use Rattle.scfs_base.specs.declared.naming.RequestNo.{RequestNo}
 use Rattle.scfs_base.specs.declared.cloud.CloudRequest.{CloudRequest}
 use Rattle.scfs_base.specs.declared.cloud.CloudRequest.TheVariants as requests
@@ -9,23 +8,15 @@ use Rattle.scfs_schedule.specs.declared.types.Line.TheVariants as lines
 use Rattle.scfs_machine.specs.Format.{Setup}
 use Rattle.scfs_machine.specs.History.{Entry, History}
 use Rattle.scfs_machine.specs.Versions.{Versions}
-use Rattle.scfs_machine.specs.Given.{Given}
-use Rattle.scfs_machine.specs.Tree.{Node}
-use Rattle.scfs_machine.specs.NameSteps.{Make, Look}
-use Rattle.scfs_machine.specs.Steps.{Step, On_names, On_locks, On_sessions}
 use Rattle.scfs_machine.specs.Sayings.{Saying, said_by}
 use Rattle.scfs_machine.specs.Sayings as says
-use Rattle.scfs_machine.specs.Agents.{Agent, Request, Input, Reaction, Sent}
-use Rattle.scfs_machine.specs.Reactions.{reacted}
-use Rattle.scfs_machine.specs.States.{Reply, Seat, State, comes, request_line}
-use Rattle.scfs_machine.specs.Newest.{Saw_line, WasNewest, IsNewest, IsFrom, is_service, after_saw, latest_saw}
-use Rattle.scfs_machine.proofs.NewestLists.{Each, Pairs, each-map, each-two, each-append, each-always, pairs-join}
-use Rattle.scfs_machine.proofs.NewestDraws.{MakesIn, Apart, IsDrawn, Draws, base_of, makes_wider, makes_apart}
-use Rattle.scfs_machine.proofs.NewestKept.{Known, SayOk, WaitOk, ReplyOk, InputOk, Whole, after_saying, after_says, wait_map, reply_map}
-use Rattle.scfs_machine.proofs.NewestWalk.{whole_reacted}
-use Rattle.scfs_machine.proofs.NewestTree.{MakesNew, IsNot}
-use Rattle.scfs_machine.proofs.NewestLines.{IsOfAgent, IsNoSawBy, idle_of_agent, said_of_agent, request_of_agent, each-did, no_services, no_saws}
-use Rattle.scfs_machine.proofs.NewestSeats.{NotAhead, IsServed, KnownBy, IsAsked, known_on, SeatOk}
+use Rattle.scfs_machine.specs.Agents.{Request}
+use Rattle.scfs_machine.specs.States.{request_line}
+use Rattle.scfs_machine.specs.Newest.{Saw_line, WasNewest, IsNewest, IsFrom, after_saw, latest_saw}
+use Rattle.scfs_machine.proofs.NewestLists.{Each}
+use Rattle.scfs_machine.proofs.NewestKept.{Known, SayOk, after_says}
+use Rattle.scfs_machine.proofs.NewestLines.{IsNoSawBy}
+use Rattle.scfs_machine.proofs.NewestSeats.{KnownBy}
 use Rattle.scfs_machine.proofs.NamesEvents.{IsIdle}
 
 pub fold-append : {X Y : Type 0} (f : Y → X → Y) (y : Y) (xs zs : List X) → fold f y (xs ++ zs) ≡ fold f (fold f y xs) zs
@@ -43,7 +34,8 @@ idle_ok past e (lines.Saw request file number) k = absurd k
 idle_ok past e (lines.Opened a h number source size) k = absurd k
 idle_ok past e _ k = tt
 
-pub request_ok : (past : History) (e : Entry) (s : Setup) (number : RequestNo) (c : ℕ) (body : CloudRequest) → LineOk past e (request_line s number c body)
+pub request_ok : (past : History) (e : Entry) (s : Setup) (number : RequestNo) (c : ℕ) (body : CloudRequest)
+    → LineOk past e (request_line s number c body)
 request_ok past e s number c (requests.Put name body) = tt
 request_ok past e s number c (requests.Get name limit) = tt
 request_ok past e s number c (requests.Delete name) = tt
@@ -61,10 +53,12 @@ idle_unseen b _ k = tt
 
 module _ {V : Type 0} (vs : Versions V) (a : ℕ) (K : Saw_line → (number : ℕ) → Type 0) (final : Option Saw_line) where
   -- the latest saw line after the lines of what an agent says
-  pub saw_said : (latest : Option Saw_line) (xs : List Saying) → Each (SayOk vs a K final) xs → fold (after_saw a) latest (map (said_by a) xs) ≡ after_says latest xs
+  pub saw_said : (latest : Option Saw_line) (xs : List Saying) → Each (SayOk vs a K final) xs
+      → fold (after_saw a) latest (map (said_by a) xs) ≡ after_says latest xs
   saw_said latest [] h = refl
   saw_said latest (says.Saw request file number ∷ xs) h =
-      ap (λ b. fold (after_saw a) (cond b (Some (record { request = request; file = file; number = number })) latest) (map (said_by a) xs)) (eq-eqb request.agent a h.0.0)
+      ap (λ b. fold (after_saw a) (cond b (Some (record { request = request; file = file; number = number })) latest) (map (said_by a) xs))
+      (eq-eqb request.agent a h.0.0)
       ∙ saw_said (Some (record { request = request; file = file; number = number })) xs h.1
   saw_said latest (says.Opened session number source size ∷ xs) h = saw_said latest xs h.1
   saw_said latest (says.Made id ∷ xs) h = saw_said latest xs h.1

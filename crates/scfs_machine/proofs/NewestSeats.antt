@@ -1,5 +1,5 @@
 -- What is known of a seat after a history, and that it stays so when another seat has an event.
-use Rattle.std.proofs.Common.{◌≡◌, ℕ, ◌+◌, ◌*◌, ◌^◌, ◌<◌, ◌≤◌, List, [], ◌∷◌, length, Bool, false, cond, refl, sym, subst, ap, ◌∙◌, Option, Some, None, fold, arith}
+use Rattle.std.proofs.Common.{◌≡◌, ℕ, ◌+◌, ◌*◌, ◌^◌, ◌<◌, ◌≤◌, List, ◌∷◌, length, false, cond, sym, subst, ap, ◌∙◌, Some, arith}
 use Rattle.std.specs.List.{list_any}
 use Rattle.scfs_base.specs.declared.naming.RequestNo.{RequestNo}
 use Rattle.scfs_machine.specs.History.{Entry, History}
@@ -60,7 +60,7 @@ module _ {V : Type 0} (vs : Versions V) where
   seat_stays past e nodes nodes2 a seat h ahead new unserved unseen =
       let q : ℕ = seat.agent.requests in
       let on : (saw : Saw_line) (number : ℕ) → KnownBy past a q seat.asked saw number → KnownBy (e ∷ past) a q seat.asked saw number =
-          known_on past e a q q seat.asked seat.asked (λ request k. (unserved request k.0, k))
+      known_on past e a q q seat.asked seat.asked (λ request k. (unserved request k.0, k))
       in
       record {
         incarnation = h.incarnation;

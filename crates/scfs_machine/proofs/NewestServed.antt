@@ -1,29 +1,22 @@
 -- A step that is served serves no other request, and makes no file of another.
-use Rattle.std.proofs.Common.{◌≡◌, ℕ, ◌+◌, ◌*◌, ◌^◌, ◌<◌, ◌≤◌, List, [], ◌∷◌, ◌++◌, length, Bool, false, true, cond, ◌&&◌, ◌||◌, refl, sym, subst, ap, ◌∙◌, Option, Some, None, Ok, Err, fold, arith, eqb}
-use Rattle.std.specs.List.{list_any}
+use Rattle.std.proofs.Common.{◌≡◌, ℕ, ◌*◌, ◌^◌, ◌≤◌, List, Bool, false, true, ◌&&◌, refl, ap, ◌∙◌, arith, eqb}
 use Rattle.scfs_base.specs.declared.naming.RequestNo.{RequestNo}
 use Rattle.scfs_schedule.specs.declared.types.Line.{Line}
 use Rattle.scfs_schedule.specs.declared.types.Line.TheVariants as lines
 use Rattle.scfs_machine.specs.Names.{same_request}
-use Rattle.scfs_machine.specs.History.{Entry, History}
 use Rattle.scfs_machine.specs.Versions.{Versions}
-use Rattle.scfs_machine.specs.Tree.{Node, Tree}
-use Rattle.scfs_machine.specs.Walks.{OrRefusal}
+use Rattle.scfs_machine.specs.Tree.{Tree}
 use Rattle.scfs_machine.specs.NameSteps.{Make, Look}
-use Rattle.scfs_machine.specs.SessionSteps.{Sight, Session_step, Session_outcome, Sees, Locks, Completes, session_outcome}
-use Rattle.scfs_machine.specs.Steps.{Step, On_names, On_locks, On_sessions, Outcome, Of_names, Of_locks, Of_sessions, Served, served}
-use Rattle.scfs_machine.specs.LockSteps.{Unlock}
+use Rattle.scfs_machine.specs.Steps.{Step, On_names, On_locks, On_sessions, served}
 use Rattle.scfs_machine.specs.Agents.{Request}
-use Rattle.scfs_machine.specs.States.{Reply, Seat}
 use Rattle.scfs_machine.specs.NamesDiffer.{CompletionKeeps}
-use Rattle.scfs_machine.specs.Newest.{Saw_line, is_service, before_service, last_committed, latest_saw}
-use Rattle.scfs_machine.proofs.NewestLists.{Each, Pairs, eqb-apart, each-map, each-two, each-append}
-use Rattle.scfs_machine.proofs.NewestDraws.{MakesIn, FilesApart, Apart}
-use Rattle.scfs_machine.proofs.NewestKept.{VersionOk, SightOk, ReplyOk, WaitOk, wait_map, reply_map}
-use Rattle.scfs_machine.proofs.NewestTree.{MakesNew, TreeOk}
-use Rattle.scfs_machine.proofs.NewestServes.{IsOfStep, OfMade, line_at, serve_ids, serve_line, SeenAt, SeenBy, serve_seen}
-use Rattle.scfs_machine.proofs.NewestLines.{IsNoSawBy, no_saws}
-use Rattle.scfs_machine.proofs.NewestSeats.{NotAhead, IsServed, KnownBy, IsAsked, known_on, SeatOk, seat_stays}
+use Rattle.scfs_machine.specs.Newest.{is_service}
+use Rattle.scfs_machine.proofs.NewestLists.{eqb-apart}
+use Rattle.scfs_machine.proofs.NewestDraws.{MakesIn, FilesApart}
+use Rattle.scfs_machine.proofs.NewestTree.{MakesNew}
+use Rattle.scfs_machine.proofs.NewestServes.{IsOfStep, OfMade, serve_ids}
+use Rattle.scfs_machine.proofs.NewestLines.{IsNoSawBy}
+use Rattle.scfs_machine.proofs.NewestSeats.{NotAhead, IsAsked}
 
 -- a step's line serves no other request
 pub other_agent : (r q : RequestNo) → ¬ (r.agent ≡ q.agent) → same_request r q ≡ false

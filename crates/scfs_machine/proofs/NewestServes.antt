@@ -1,5 +1,5 @@
 -- What a step that is served does to nodes, to what was committed and to sights, and what its line is.
-use Rattle.std.proofs.Common.{◌≡◌, ℕ, ◌+◌, ◌-◌, List, [], ◌∷◌, ◌++◌, Bool, true, false, ◌&&◌, refl, sym, ap, ◌∙◌, Option, Some, None, Ok, Err, find, eqb}
+use Rattle.std.proofs.Common.{◌≡◌, ℕ, ◌+◌, ◌-◌, [], ◌∷◌, ◌++◌, Bool, true, refl, Some, Ok, Err, find}
 use Rattle.scfs_base.specs.declared.naming.FileId.{FileId}
 use Rattle.scfs_base.specs.declared.naming.RequestNo.{RequestNo}
 use Rattle.scfs_schedule.specs.declared.types.Line.{Line}
@@ -7,12 +7,12 @@ use Rattle.scfs_schedule.specs.declared.types.Line.TheVariants as lines
 use Rattle.scfs_machine.specs.Lists.{without_first}
 use Rattle.scfs_machine.specs.Names.{same_request}
 use Rattle.scfs_machine.specs.Versions.{Versions}
-use Rattle.scfs_machine.specs.Tree.{Node, Lock, Tree, node_at, session_lock, is_node_at}
+use Rattle.scfs_machine.specs.Tree.{Node, Tree, node_at, is_node_at}
 use Rattle.scfs_machine.specs.Walks.{OrRefusal}
 use Rattle.scfs_machine.specs.NameSteps.{Make, Look, Name_outcome, Makes, Shows, new_file, name_outcome, nodes_after, name_line}
 use Rattle.scfs_machine.specs.LockSteps.{Unlock}
 use Rattle.scfs_machine.specs.SessionSteps.{Sight, Session_step, Session_outcome, Sees, Locks, Completes, with_version, session_outcome, session_after, session_line}
-use Rattle.scfs_machine.specs.Steps.{Step, On_names, On_locks, On_sessions, Outcome, Of_names, Of_locks, Of_sessions, after_ok, line_of, served, served_line}
+use Rattle.scfs_machine.specs.Steps.{Step, On_names, On_locks, On_sessions, after_ok, line_of, served, served_line}
 use Rattle.scfs_machine.specs.NamesDiffer.{CompletionKeeps}
 use Rattle.scfs_machine.specs.Newest.{after_commit, is_service}
 use Rattle.scfs_machine.proofs.NewestLists.{Each, eqb-refl, each-always, each-append, each-without, each-found}
@@ -86,20 +86,24 @@ module _ {V : Type 0} (vs : Versions V) (keeps : CompletionKeeps vs) (tree : Tre
   module _ (committed : FileId → ℕ) (h : TreeOk vs committed tree.nodes tree.versions) where
     -- after it, nodes are at what was committed
     pub serve_tree : (step : Step V) → MakesNew tree.nodes step
-        → TreeOk vs (λ id. after_commit id (committed id) (line_at step)) (served vs tree now lease request step).tree.nodes (served vs tree now lease request step).tree.versions
+        → TreeOk vs (λ id. after_commit id (committed id) (line_at step)) (served vs tree now lease request step).tree.nodes
+        (served vs tree now lease request step).tree.versions
     serve_tree (On_names (Make names id)) new =
-        make_cases tree.nodes (λ r. TreeOk vs (λ id. after_commit id (committed id) (line_of request name_line r)) (after_ok tree.nodes (nodes_after tree.nodes) r) tree.versions)
+        make_cases tree.nodes (λ r. TreeOk vs (λ id. after_commit id (committed id) (line_of request name_line r))
+        (after_ok tree.nodes (nodes_after tree.nodes) r) tree.versions)
         (λ why. tree_same vs committed tree.nodes tree.versions (lines.Refused request why) tt h) names id
         (λ d last free. tree_same vs committed (tree.nodes ++ new_file id d last ∷ []) tree.versions (lines.Changed request) tt
         (tree_made vs committed tree.nodes tree.versions id d last new h))
     serve_tree (On_names (Look names)) new =
-        look_cases tree.nodes (λ r. TreeOk vs (λ id. after_commit id (committed id) (line_of request name_line r)) (after_ok tree.nodes (nodes_after tree.nodes) r) tree.versions)
+        look_cases tree.nodes (λ r. TreeOk vs (λ id. after_commit id (committed id) (line_of request name_line r))
+        (after_ok tree.nodes (nodes_after tree.nodes) r) tree.versions)
         (λ why. tree_same vs committed tree.nodes tree.versions (lines.Refused request why) tt h) names
         (λ n. tree_same vs committed tree.nodes tree.versions (lines.Looked request) tt h)
     serve_tree (On_locks (Unlock file session)) new = tree_same vs committed tree.nodes tree.versions (line_at (On_locks (Unlock file session))) tt h
     serve_tree (On_sessions x) new =
         session_cases vs tree now (now + lease) request (λ n. Unit {0}) (each-always _ (λ n. tt) tree.nodes)
-        (λ r. TreeOk vs (λ id. after_commit id (committed id) (line_of request (session_line vs) r)) (after_ok tree (session_after vs tree request) r).nodes
+        (λ r. TreeOk vs (λ id. after_commit id (committed id) (line_of request (session_line vs) r))
+        (after_ok tree (session_after vs tree request) r).nodes
         (after_ok tree (session_after vs tree request) r).versions)
         (λ why. tree_same vs committed tree.nodes tree.versions (lines.Refused request why) tt h)
         (λ n q. tree_same vs committed tree.nodes tree.versions (lines.Looked request) tt h)

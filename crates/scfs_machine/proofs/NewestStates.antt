@@ -1,33 +1,29 @@
 -- What is known of the tree and of each seat after a history stays known after each event, and its opened lines are of the newest versions.
-use Rattle.std.proofs.Common.{◌≡◌, ℕ, ◌+◌, ◌^◌, ◌≤◌, List, [], ◌∷◌, ◌++◌, length, Bool, false, refl, sym, subst, ap, ◌∙◌, Option, Some, None, fold, arith, slice_get, le_refl, zero-le, le_trans}
+use Rattle.std.proofs.Common.{◌≡◌, ℕ, ◌^◌, ◌≤◌, List, [], ◌∷◌, ◌++◌, length, sym, subst, ap, Some, fold, arith, slice_get}
 use Rattle.std.specs.List.{list_any}
-use Rattle.scfs_base.specs.declared.naming.FileId.{FileId}
-use Rattle.scfs_base.specs.declared.naming.RequestNo.{RequestNo}
 use Rattle.scfs_schedule.specs.declared.types.Line.{Line}
 use Rattle.scfs_machine.specs.Lists.{moved_back}
 use Rattle.scfs_machine.specs.Format.{Setup}
 use Rattle.scfs_machine.specs.History.{Entry, History}
 use Rattle.scfs_machine.specs.Versions.{Versions}
 use Rattle.scfs_machine.specs.Given.{Given}
-use Rattle.scfs_machine.specs.Tree.{Node, Tree, live}
+use Rattle.scfs_machine.specs.Tree.{Node}
 use Rattle.scfs_machine.specs.NameSteps.{Make, Look}
 use Rattle.scfs_machine.specs.Steps.{Step, On_names, On_locks, On_sessions}
 use Rattle.scfs_machine.specs.Agents.{Request, Input, Calls, Tells, Hears, Turns, Reaction}
 use Rattle.scfs_machine.specs.Reactions.{reacted}
-use Rattle.scfs_machine.specs.States.{Reply, Seat, State, Effect, leaving, comes, serves, postpones}
+use Rattle.scfs_machine.specs.States.{Reply, Seat, State, Effect, leaving, comes, postpones}
 use Rattle.scfs_machine.specs.NamesDiffer.{CompletionKeeps}
-use Rattle.scfs_machine.specs.Newest.{Saw_line, is_service, after_commit, last_committed, after_saw, latest_saw}
-use Rattle.scfs_machine.proofs.NewestLists.{Each, Pairs, Places, each-map, each-always, each-moved, pairs-moved, places_set}
+use Rattle.scfs_machine.specs.Newest.{Saw_line, is_service, last_committed, after_saw, latest_saw}
+use Rattle.scfs_machine.proofs.NewestLists.{Each, Places, each-map, each-moved, pairs-moved, places_set}
 use Rattle.scfs_machine.proofs.NewestDraws.{Apart, FilesApart}
 use Rattle.scfs_machine.proofs.NewestKept.{ReplyOk, InputOk, WaitOk, wait_map, reply_map}
-use Rattle.scfs_machine.proofs.NewestTree.{MakesNew, TreeOk, tree_said}
-use Rattle.scfs_machine.proofs.NewestServes.{line_at, serve_tree}
-use Rattle.scfs_machine.proofs.NewestLines.{IsOfAgent, IsNoCommit, IsNoSawBy, idle_of_agent, no_commit_of-agent, no_commits, no_services, no_saws}
-use Rattle.scfs_machine.proofs.NewestSeats.{NotAhead, IsServed, KnownBy, known_on, SeatOk, seat_stays}
+use Rattle.scfs_machine.proofs.NewestTree.{TreeOk, tree_said}
+use Rattle.scfs_machine.proofs.NewestLines.{IsOfAgent, IsNoCommit, IsNoSawBy, idle_of_agent, no_commit_of-agent, no_commits, no_services}
+use Rattle.scfs_machine.proofs.NewestSeats.{KnownBy, known_on, SeatOk, seat_stays}
 use Rattle.scfs_machine.proofs.NewestSaid.{LineOk, idle_ok, idle_unseen}
 use Rattle.scfs_machine.proofs.NewestComes.{come_of_agent, come_unseen, come_lines, come_seat}
-use Rattle.scfs_machine.proofs.NewestPlaces.{served_seat, other_seat}
-use Rattle.scfs_machine.proofs.NamesEvents.{IsIdle, IsNoReply, Ways}
+use Rattle.scfs_machine.proofs.NamesEvents.{IsIdle, IsNoReply}
 
 module _ {V : Type 0} (vs : Versions V) where
   -- nodes are at what was committed, and of each seat all is known
@@ -55,8 +51,8 @@ module _ {V : Type 0} (vs : Versions V) where
   postponed_seat past e nodes a seat same h =
       let q : ℕ = seat.agent.requests in
       let on : (saw : Saw_line) (number : ℕ) → KnownBy past a q seat.asked saw number → KnownBy (e ∷ past) a q (moved_back seat.asked) saw number =
-          known_on past e a q q seat.asked (moved_back seat.asked)
-          (λ request k. (ap (list_any (is_service request)) same, (k.0, k.1, each-moved _ seat.asked k.2)))
+      known_on past e a q q seat.asked (moved_back seat.asked)
+      (λ request k. (ap (list_any (is_service request)) same, (k.0, k.1, each-moved _ seat.asked k.2)))
       in
       record {
         incarnation = h.incarnation;
@@ -71,22 +67,26 @@ module _ {V : Type 0} (vs : Versions V) where
       }
 
   -- a seat with one reply less
-  pub told_seat : (past : History) (nodes : List Node) (a : ℕ) (seat : Seat V) (oldest : Reply V) (rest : List (Reply V)) → seat.replied ≡ oldest ∷ rest
+  pub told_seat : (past : History) (nodes : List Node) (a : ℕ) (seat : Seat V) (oldest : Reply V) (rest : List (Reply V))
+      → seat.replied ≡ oldest ∷ rest
       → SeatOk vs past nodes a seat
-      → SeatOk vs past nodes a (record seat { replied = rest }) × ReplyOk vs a (KnownBy past a seat.agent.requests seat.asked) oldest.number oldest.outcome
+      → SeatOk vs past nodes a (record seat { replied = rest }) × ReplyOk vs a
+      (KnownBy past a seat.agent.requests seat.asked) oldest.number oldest.outcome
   told_seat past nodes a seat oldest rest same h =
-      let g : SeatOk vs past nodes a (record seat { replied = oldest ∷ rest }) = subst (λ xs. SeatOk vs past nodes a (record seat { replied = xs })) same h in
-      (record {
-        incarnation = g.incarnation;
-        files = g.files;
-        ahead = g.ahead;
-        drawn = g.drawn;
-        new = g.new;
-        apart = g.apart;
-        replied = g.replied.1;
-        waiting = g.waiting;
-      },
-      g.replied.0)
+      let g : SeatOk vs past nodes a (record seat { replied = oldest ∷ rest }) = subst
+      (λ xs. SeatOk vs past nodes a (record seat { replied = xs })) same h in (
+        record {
+          incarnation = g.incarnation;
+          files = g.files;
+          ahead = g.ahead;
+          drawn = g.drawn;
+          new = g.new;
+          apart = g.apart;
+          replied = g.replied.1;
+          waiting = g.waiting;
+        },
+        g.replied.0,
+      )
 
 -- after an event
 module _ {V : Type 0} (s : Setup) (vs : Versions V) (keeps : CompletionKeeps vs) (past : History) (e : Entry) (state : State V) (given : Given)
@@ -103,7 +103,8 @@ module _ {V : Type 0} (s : Setup) (vs : Versions V) (keeps : CompletionKeeps vs)
       tree_said vs (λ id. last_committed id past) (λ id. last_committed id (e ∷ past)) N state.tree.versions
       (λ id. no_commits id (last_committed id past) e.lines (each-map IsOfAgent IsNoCommit no_commit_of-agent e.lines quiet)) h.tree
 
-  quiet_seat : Each IsOfAgent e.lines → (b : ℕ) → Each (IsNoSawBy b) e.lines → (y : Seat V) → slice_get state.seats b ≡ Some y → SeatOk vs (e ∷ past) N b y
+  quiet_seat : Each IsOfAgent e.lines → (b : ℕ) → Each (IsNoSawBy b) e.lines → (y : Seat V) → slice_get state.seats b ≡ Some y
+      → SeatOk vs (e ∷ past) N b y
   quiet_seat quiet b unseen y found =
       let g : SeatOk vs past N b y = h.seats b y found in
       seat_stays vs past e N N b y g g.ahead g.new (λ request k. no_services request e.lines quiet) unseen
@@ -111,25 +112,29 @@ module _ {V : Type 0} (s : Setup) (vs : Versions V) (keeps : CompletionKeeps vs)
   pub fine_nothing : (shown : List Line) → Each IsIdle shown → IsFine (leaving state shown)
   fine_nothing shown idle same =
       let idle_lines : Each IsIdle e.lines = subst (Each IsIdle) (sym same) idle in
-      let quiet : Each IsOfAgent e.lines = each-map IsIdle IsOfAgent idle_of_agent e.lines idle_lines in
-      (record {
-        tree = quiet_tree quiet;
-        seats = λ b y found. quiet_seat quiet b (each-map IsIdle (IsNoSawBy b) (idle_unseen b) e.lines idle_lines) y found;
-      },
-      each-map IsIdle (LineOk past e) (idle_ok past e) e.lines idle_lines)
+      let quiet : Each IsOfAgent e.lines = each-map IsIdle IsOfAgent idle_of_agent e.lines idle_lines in (
+        record {
+          tree = quiet_tree quiet;
+          seats = λ b y found. quiet_seat quiet b (each-map IsIdle (IsNoSawBy b) (idle_unseen b) e.lines idle_lines) y found;
+        },
+        each-map IsIdle (LineOk past e) (idle_ok past e) e.lines idle_lines,
+      )
 
-  fine_comes : (a : ℕ) (old seat : Seat V) (before : List Line) (input : Input V) → slice_get state.seats a ≡ Some old → SeatOk vs past N a seat → Each IsIdle before
+  fine_comes : (a : ℕ) (old seat : Seat V) (before : List Line) (input : Input V) → slice_get state.seats a ≡ Some old → SeatOk vs past N a seat
+      → Each IsIdle before
       → InputOk vs a (KnownBy past a seat.agent.requests seat.asked) input → IsFine (comes s vs state a given before input seat)
   fine_comes a old seat before input found g idle fits same =
       let quiet : Each IsOfAgent e.lines = come_of_agent s vs past e N state a seat given before input idle same small g fits in
-      let r : Reaction V = reacted s vs a seat.agent given input in
-      (record {
-        tree = quiet_tree quiet;
-        seats = places_set (SeatOk vs (e ∷ past) N) state.seats a old (record seat { agent = r.agent; asked = seat.asked ++ r.steps }) found
-            (come_seat s vs past e N state a seat given before input idle same small g fits)
-            (λ b other y there. quiet_seat quiet b (come_unseen s vs past e N state a seat given before input idle same small g fits b other) y there);
-      },
-      come_lines s vs past e N state a seat given before input idle same small g fits)
+      let r : Reaction V = reacted s vs a seat.agent given input in (
+        record {
+          tree = quiet_tree quiet;
+          seats = places_set (SeatOk vs (e ∷ past) N) state.seats a old (record seat { agent = r.agent; asked = seat.asked ++ r.steps }) found
+              (come_seat s vs past e N state a seat given before input idle same small g fits)
+              (λ b other y there. quiet_seat quiet b
+              (come_unseen s vs past e N state a seat given before input idle same small g fits b other) y there);
+        },
+        come_lines s vs past e N state a seat given before input idle same small g fits,
+      )
 
   no_reply : (a : ℕ) (K : Saw_line → (number : ℕ) → Type 0) (input : Input V) → IsNoReply input → InputOk vs a K input
   no_reply a K (Calls call) k = tt
@@ -137,27 +142,32 @@ module _ {V : Type 0} (s : Setup) (vs : Versions V) (keeps : CompletionKeeps vs)
   no_reply a K (Hears c request answer) k = tt
   no_reply a K Turns k = tt
 
-  pub fine_come : (a : ℕ) (seat : Seat V) (before : List Line) (input : Input V) → slice_get state.seats a ≡ Some seat → Each IsIdle before → IsNoReply input
+  pub fine_come : (a : ℕ) (seat : Seat V) (before : List Line) (input : Input V) → slice_get state.seats a ≡ Some seat → Each IsIdle before
+      → IsNoReply input
       → IsFine (comes s vs state a given before input seat)
   fine_come a seat before input found idle k =
       fine_comes a seat seat before input found (h.seats a seat found) idle (no_reply a (KnownBy past a seat.agent.requests seat.asked) input k)
 
-  pub fine_told : (a : ℕ) (seat : Seat V) (oldest : Reply V) (rest : List (Reply V)) → slice_get state.seats a ≡ Some seat → seat.replied ≡ oldest ∷ rest
+  pub fine_told : (a : ℕ) (seat : Seat V) (oldest : Reply V) (rest : List (Reply V)) → slice_get state.seats a ≡ Some seat
+      → seat.replied ≡ oldest ∷ rest
       → IsFine (comes s vs state a given [] (Tells oldest.number oldest.outcome) (record seat { replied = rest }))
   fine_told a seat oldest rest found is =
-      let both : SeatOk vs past N a (record seat { replied = rest }) × ReplyOk vs a (KnownBy past a seat.agent.requests seat.asked) oldest.number oldest.outcome =
-          told_seat vs past N a seat oldest rest is (h.seats a seat found)
+      let both : SeatOk vs past N a (record seat { replied = rest }) × ReplyOk vs a
+      (KnownBy past a seat.agent.requests seat.asked) oldest.number oldest.outcome =
+      told_seat vs past N a seat oldest rest is (h.seats a seat found)
       in
       fine_comes a seat (record seat { replied = rest }) [] (Tells oldest.number oldest.outcome) found both.0 tt both.1
 
-  pub fine_postpone : (a : ℕ) (seat : Seat V) (oldest : Request V) (rest : List (Request V)) → slice_get state.seats a ≡ Some seat → seat.asked ≡ oldest ∷ rest
+  pub fine_postpone : (a : ℕ) (seat : Seat V) (oldest : Request V) (rest : List (Request V)) → slice_get state.seats a ≡ Some seat
+      → seat.asked ≡ oldest ∷ rest
       → IsFine (postpones state a seat (oldest ∷ rest))
   fine_postpone a seat oldest rest found is same =
-      let quiet : Each IsOfAgent e.lines = subst (Each IsOfAgent) (sym same) tt in
-      (record {
-        tree = quiet_tree quiet;
-        seats = places_set (SeatOk vs (e ∷ past) N) state.seats a seat (record seat { asked = moved_back seat.asked }) found
-            (postponed_seat vs past e N a seat same (h.seats a seat found))
-            (λ b other y there. quiet_seat quiet b (subst (Each (IsNoSawBy b)) (sym same) tt) y there);
-      },
-      subst (Each (LineOk past e)) (sym same) tt)
+      let quiet : Each IsOfAgent e.lines = subst (Each IsOfAgent) (sym same) tt in (
+        record {
+          tree = quiet_tree quiet;
+          seats = places_set (SeatOk vs (e ∷ past) N) state.seats a seat (record seat { asked = moved_back seat.asked }) found
+              (postponed_seat vs past e N a seat same (h.seats a seat found))
+              (λ b other y there. quiet_seat quiet b (subst (Each (IsNoSawBy b)) (sym same) tt) y there);
+        },
+        subst (Each (LineOk past e)) (sym same) tt,
+      )

@@ -1,5 +1,5 @@
 -- The nodes of the tree have the versions that were committed, and each step that is served keeps it so.
-use Rattle.std.proofs.Common.{◌≡◌, ℕ, ◌+◌, ◌-◌, List, [], ◌∷◌, ◌++◌, Bool, true, false, cond, ◌&&◌, ◌==◌, refl, sym, subst, ap, ◌∙◌, Option, Some, None, Ok, Err, find, eqb}
+use Rattle.std.proofs.Common.{◌≡◌, ℕ, ◌-◌, List, [], ◌∷◌, ◌++◌, Bool, true, false, cond, ◌==◌, refl, sym, ap, ◌∙◌, Option, Some, find, eqb}
 use Rattle.std.proofs.lemmas.Bool.{eqb-true, and_parts}
 use Rattle.scfs_base.specs.declared.naming.FileId.{FileId}
 use Rattle.scfs_base.specs.declared.naming.RequestNo.{RequestNo}
@@ -8,21 +8,18 @@ use Rattle.scfs_schedule.specs.declared.types.Line.TheVariants as lines
 use Rattle.scfs_machine.specs.Lists.{without_first}
 use Rattle.scfs_machine.specs.Names.{same_file}
 use Rattle.scfs_machine.specs.Versions.{Versions}
-use Rattle.scfs_machine.specs.Tree.{Node, Lock, Tree, version_at, node_at, session_lock, is_node_at, node_in}
-use Rattle.scfs_machine.specs.Walks.{OrRefusal}
-use Rattle.scfs_machine.specs.NameSteps.{Make, Look, Name_outcome, Makes, Shows, new_file, name_outcome, nodes_after, name_line}
-use Rattle.scfs_machine.specs.LockSteps.{Unlock}
-use Rattle.scfs_machine.specs.SessionSteps.{Session_outcome, with_version, session_outcome, session_after, session_line}
-use Rattle.scfs_machine.specs.Steps.{Step, On_names, On_locks, On_sessions, after_ok, line_of, served, served_line}
-use Rattle.scfs_machine.specs.NamesDiffer.{CompletionKeeps}
+use Rattle.scfs_machine.specs.Tree.{Node, version_at, is_node_at}
+use Rattle.scfs_machine.specs.NameSteps.{Make, Look, new_file}
+use Rattle.scfs_machine.specs.SessionSteps.{with_version}
+use Rattle.scfs_machine.specs.Steps.{Step, On_names, On_locks, On_sessions}
 use Rattle.scfs_machine.specs.Newest.{after_commit}
-use Rattle.scfs_machine.proofs.NewestLists.{Each, Pairs, eqb-refl, eqb-apart, each-map, each-two, each-always, each-append, each-front, each-back, each-without, each-found, each-restored, pairs-append, pairs-without, pairs-found}
+use Rattle.scfs_machine.proofs.NewestLists.{Each, Pairs, eqb-refl, eqb-apart, each-map, each-two, each-append, each-front, each-back, each-without, each-restored, pairs-append, pairs-without, pairs-found}
 use Rattle.scfs_machine.proofs.NewestKept.{VersionOk}
 use Rattle.scfs_machine.proofs.NewestVersions.{version_zero, version_kept, version_there}
 use Rattle.scfs_machine.proofs.NewestLines.{IsNoCommit, commits_nothing}
-use Rattle.scfs_machine.proofs.NamesSteps.{make_cases, look_cases, session_cases}
 
-found_by : {X : Type 0} (p : X → Bool) (b : Bool) (y x : X) (rest : Option X) → p y ≡ b → (rest ≡ Some x → p x ≡ true) → cond b (Some y) rest ≡ Some x → p x ≡ true
+found_by : {X : Type 0} (p : X → Bool) (b : Bool) (y x : X) (rest : Option X) → p y ≡ b → (rest ≡ Some x → p x ≡ true)
+    → cond b (Some y) rest ≡ Some x → p x ≡ true
 found_by p true y x rest e later found = cc
 found_by p false y x rest e later found = later found
 
@@ -93,7 +90,8 @@ module _ {V : Type 0} (vs : Versions V) where
     after id = after_commit id (committed id) (lines.Committed request (vs.file w) (vs.number w))
 
     same_id : n.id.0 ≡ (vs.file w).0
-    same_id = eqb-true n.id.0 (vs.file w).0 (and_parts (same_file n.id (vs.file w)) (n.newest == vs.number w - 1) (found_passes at_file nodes n found)).0
+    same_id = eqb-true n.id.0 (vs.file w).0 (and_parts (same_file n.id (vs.file w)) (n.newest == vs.number w - 1)
+        (found_passes at_file nodes n found)).0
 
     after_other : (id : FileId) → ¬ (n.id.0 ≡ id.0) → after id ≡ committed id
     after_other id other = ap (λ b. cond b (vs.number w) (committed id)) (eqb-apart (vs.file w).0 id.0 (λ e. other (same_id ∙ e)))
@@ -105,7 +103,7 @@ module _ {V : Type 0} (vs : Versions V) where
     pub tree_completed : TreeOk after (without_first at_file nodes ++ with_version vs n w ∷ []) (versions ++ w ∷ [])
     tree_completed =
         let others : Each (λ m. IdsApart m n) (without_first at_file nodes) =
-            pairs-found IdsApart (λ x y k e. k (sym e)) at_file nodes n h.apart found
+        pairs-found IdsApart (λ x y k e. k (sym e)) at_file nodes n h.apart found
         in
         record {
           apart = pairs-append IdsApart (without_first at_file nodes) (with_version vs n w) (pairs-without IdsApart at_file nodes h.apart) others;

@@ -1,5 +1,5 @@
 -- The version beside a number in a list of versions, also after one more.
-use Rattle.std.proofs.Common.{◌≡◌, ℕ, List, [], ◌∷◌, ◌++◌, Bool, true, false, cond, ◌&&◌, ◌==◌, refl, sym, ap, ◌∙◌, Option, Some, None, find, eqb}
+use Rattle.std.proofs.Common.{◌≡◌, ℕ, List, [], ◌∷◌, ◌++◌, Bool, true, false, cond, ◌&&◌, ◌==◌, refl, Option, Some, None, find}
 use Rattle.std.proofs.lemmas.Bool.{eqb-true, and_parts}
 use Rattle.scfs_base.specs.declared.naming.FileId.{FileId}
 use Rattle.scfs_machine.specs.Names.{same_file}
@@ -40,6 +40,7 @@ module _ {V : Type 0} (vs : Versions V) (file : FileId) (number : ℕ) where
     where
       passes : is_it w ≡ true
       passes = rw (n, f, eqb-refl file.0, eqb-refl number)
+
       by : (b : Bool) → is_it w ≡ b → VersionOk vs number (cond b (Some w) None)
       by true e = n
       by false e = absurd (cc passes)

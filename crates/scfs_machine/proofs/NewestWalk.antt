@@ -18,14 +18,14 @@ use Rattle.scfs_machine.specs.LockSteps.{Unlock}
 use Rattle.scfs_machine.specs.Sayings as says
 use Rattle.scfs_machine.specs.Agents.{Opening, Waiting, For_step, For_clouds, For_close, Upload, Closed, Agent, Input, Calls, Tells, Hears, Turns, Reaction, silent, saying, answered, followed, asks_step}
 use Rattle.scfs_machine.specs.Calls.{call_of}
-use Rattle.scfs_machine.specs.Opens.{Found, As_empty, On_clouds, found_version, found, asks_gets, sighted, saw, gives_up, reads, tallied, takes, open_hears, open_turns}
+use Rattle.scfs_machine.specs.Opens.{Found, As_empty, On_clouds, found_version, found, asks_gets, sighted, saw, gives_up, reads, tallied, open_hears, open_turns}
 use Rattle.scfs_machine.specs.Closes.{upload_hears, upload_turns}
-use Rattle.scfs_machine.specs.Told.{name_answer, is_pending, untold, told_open, told_closed, told_commit, told_sessions, told, tells}
+use Rattle.scfs_machine.specs.Told.{name_answer, is_pending, untold, told_open, told_commit, told, tells}
 use Rattle.scfs_machine.specs.Reactions.{idle, to_open, to_upload, to_work, hears, turns, responded, next_begun, reacted}
 use Rattle.scfs_machine.specs.Newest.{Saw_line}
-use Rattle.scfs_machine.proofs.NewestLists.{Each, chosen}
-use Rattle.scfs_machine.proofs.NewestDraws.{Draws, draws_nothing}
-use Rattle.scfs_machine.proofs.NewestKept.{Known, OpeningOk, WaitOk, VersionOk, SightOk, ReplyOk, InputOk, Steady, Whole, whole-followed, steady_silent, whole_of-steady}
+use Rattle.scfs_machine.proofs.NewestLists.{chosen}
+use Rattle.scfs_machine.proofs.NewestDraws.{draws_nothing}
+use Rattle.scfs_machine.proofs.NewestKept.{OpeningOk, WaitOk, VersionOk, SightOk, ReplyOk, InputOk, Steady, Whole, whole-followed, steady_silent, whole_of-steady}
 use Rattle.scfs_machine.proofs.NewestSteady.{steady_upload, steady_upload_hears, steady_upload_turns, steady_next, steady_call}
 
 module _ {V : Type 0} (vs : Versions V) where
@@ -59,9 +59,11 @@ module _ {V : Type 0} (s : Setup) (vs : Versions V) (a : ℕ) (K : Saw_line → 
       → IsWhole 0 g (followed (saying g (says.Saw request sight.file sight.number)) (λ next. sighted s vs a next given h writes sight f))
   whole_sighted g given request h writes sight As_empty mine known k =
       (draws_nothing a 0 g, ((mine, known), ((known, ((λ e. (refl, refl)), (λ apart. absurd (apart k)))), tt)), tt)
-  whole_sighted g given request h writes sight (On_clouds v) mine known k =
-      ((refl, le-add_right _ _, le_refl _, le-add_right _ _, tt, tt), ((mine, known), tt),
-      (subst (λ n. K (record { request = request; file = sight.file; number = sight.number }) n) (sym k.0) known, λ e. k.1 (sym k.0 ∙ e)))
+  whole_sighted g given request h writes sight (On_clouds v) mine known k = (
+    (refl, le-add_right _ _, le_refl _, le-add_right _ _, tt, tt),
+    ((mine, known), tt),
+    (subst (λ n. K (record { request = request; file = sight.file; number = sight.number }) n) (sym k.0) known, λ e. k.1 (sym k.0 ∙ e)),
+  )
 
   whole_saw : (g : Agent V) (given : Given) (request : RequestNo) (h : ℕ) (writes : Bool) (sight : Sight V)
       → SightOk vs a K request sight → IsWhole 0 g (saw s vs a g given request h writes sight)
@@ -75,7 +77,8 @@ module _ {V : Type 0} (s : Setup) (vs : Versions V) (a : ℕ) (K : Saw_line → 
   whole_gives_up : (g : Agent V) (o : Opening V) (good : ℕ) → IsWhole 0 g (gives_up s vs a g o good)
   whole_gives_up g o good =
       let first : Reaction V = answered g (says.Refused (refusals.Unavailable (vs.number o.version) good)) in
-      whole-followed vs a K 0 latest g first (λ next. if o.writes then asks_step a next (On_locks (Unlock (vs.file o.version) o.session)) else silent next)
+      whole-followed vs a K 0 latest g first (λ next. if o.writes then asks_step a next
+      (On_locks (Unlock (vs.file o.version) o.session)) else silent next)
       (draws_nothing a 0 g, (tt, tt), tt) (steady_back first.agent o o.writes)
 
   whole_reads : (g : Agent V) (o : Opening V) (next : Next (List ℕ)) → IsKnown o → IsWhole 0 g (reads s vs a g o next)

@@ -1,4 +1,4 @@
-use Rattle.std.specs.Prelude.{◌≡◌, ℕ, ◌-◌, List, [], ◌∷◌, find, Bool, ◌&&◌, Option, Some, None, Contains}
+use Rattle.std.specs.Prelude.{◌≡◌, ℕ, ◌-◌, List, [], ◌∷◌, find, Bool, ◌&&◌, Some, None, Contains}
 use Rattle.std.specs.Str.{bytes_eq}
 use Rattle.scfs_base.specs.declared.naming.FileId.{FileId}
 use Rattle.scfs_base.specs.declared.naming.RequestNo.{RequestNo}
@@ -34,7 +34,8 @@ module _ {V : Type 0} where
   -- the close of a session that makes this request found that session's live lock on the file, and the file at the version before
   abbrev pub HeldLock : Tree V → RequestNo → FileId → (number : ℕ) → Type 0
   HeldLock tree request file number =
-      (session : ℕ) × ((l : Lock) × (session_lock tree.locks request file session ≡ Some l)) × ((n : Node) × (node_at tree.nodes file (number - 1) ≡ Some n))
+      (session : ℕ) × ((l : Lock) × (session_lock tree.locks request file session ≡ Some l)) ×
+      ((n : Node) × (node_at tree.nodes file (number - 1) ≡ Some n))
 
   -- each committed line of an entry that comes to a state
   abbrev pub CommitsHeld : State V → Entry → Type 0

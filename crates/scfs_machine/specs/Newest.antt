@@ -1,4 +1,4 @@
-use Rattle.std.specs.Prelude.{◌≡◌, ℕ, List, [], ◌∷◌, fold, Bool, false, ◌==◌, if◌then◌else◌, Option, Some, None, Contains}
+use Rattle.std.specs.Prelude.{◌≡◌, ℕ, [], ◌∷◌, fold, Bool, false, ◌==◌, if◌then◌else◌, Option, Some, None, Contains}
 use Rattle.std.specs.List.{list_any}
 use Rattle.scfs_base.specs.declared.naming.FileId.{FileId}
 use Rattle.scfs_base.specs.declared.naming.RequestNo.{RequestNo}
