@@ -1,6 +1,4 @@
-use Rattle.std.specs.Prelude.{◌≡◌, ℕ, List, [], ◌∷◌, find, Bool, ◌&&◌, None}
-use Rattle.std.specs.Str.{bytes_eq}
-use Rattle.scfs_base.specs.declared.naming.FileId.{FileId}
+use Rattle.std.specs.Prelude.{[], ◌∷◌}
 use Rattle.scfs_gf256.specs.Polynomials.{AreBytes}
 use Rattle.scfs_schedule.specs.Grammar.{IsHeader, IsEvent}
 use Rattle.scfs_schedule.specs.declared.types.Call.{Call}
@@ -8,10 +6,8 @@ use Rattle.scfs_schedule.specs.declared.types.Call.TheVariants as calls
 use Rattle.scfs_schedule.specs.declared.types.Event.{Event}
 use Rattle.scfs_schedule.specs.declared.types.Event.TheVariants as events
 use Rattle.scfs_schedule.specs.declared.types.Header.{Header}
-use Rattle.scfs_machine.specs.Names.{same_file}
 use Rattle.scfs_machine.specs.UnitFormat.{under}
 use Rattle.scfs_machine.specs.History.{Entry, History}
-use Rattle.scfs_machine.specs.Tree.{Node}
 use Rattle.scfs_machine.specs.Runs.{Happens, Run}
 use Rattle.scfs_machine.specs.Clouds.{IsServed}
 use Rattle.scfs_machine.specs.Blocks.{NoClash}
@@ -47,12 +43,3 @@ RunsWithoutClash =
 -- where no two different blocks of a history share a digest, none of it without its newest event do
 abbrev pub NoClashBefore : Type 0
 NoClashBefore = (header : Header) (e : Entry) (past : History) → NoClash header (e ∷ past) → NoClash header past
-
--- whether a node has this name below this parent
-abbrev pub has_place : FileId → (name : List ℕ) → Node → Bool
-has_place parent name n = same_file n.parent parent && bytes_eq n.name name
-
--- no two nodes have one name below one parent: none is found among those behind it
-abbrev pub NamesDiffer : List Node → Type 0
-NamesDiffer [] = Unit {0}
-NamesDiffer (n ∷ ns) = (find (has_place n.parent n.name) ns ≡ None) × NamesDiffer ns
