@@ -1,5 +1,5 @@
 -- A piece that is accepted for a cloud is of it.
-use Rattle.std.proofs.Common.{◌≡◌, ℕ, length, Bool, true, false, cond, Option, Some, None, refl, ap, subst}
+use Rattle.std.proofs.Common.{◌≡◌, ℕ, Bool, true, false, cond, Option, Some, None, refl, ap, subst}
 use Rattle.std.specs.Prelude.{◌==◌, Result, Ok, Err}
 use Rattle.scfs_base.specs.declared.cloud.CloudAnswer.{CloudAnswer}
 use Rattle.scfs_base.specs.declared.cloud.CloudAnswer.TheVariants as answers
