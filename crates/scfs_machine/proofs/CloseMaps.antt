@@ -27,7 +27,7 @@ module _ {V W : Type 0} (s : Setup) (ws : Versions W) (g : V → W) (own : Own V
 
   same_short : (a : Agent V) (x : Closed V) (acks : ℕ) → falls_short s who (to.agent g a) (to.closed g x) acks ≡ to.reaction g (falls_short s who a x acks)
   same_short a x acks =
-      same_followed g _ (answered a (says.Refused (refusals.Short acks)))
+      same_followed g _ (answered a (says.Refuses (refusals.Short acks)))
       (λ b. asks_step who b (On_locks (Unlock x.session.file x.number))) (λ b. asks_step who b (On_locks (Unlock x.session.file x.number))) refl
       (same_asks g who (record a { waiting = None }) (On_locks (Unlock x.session.file x.number)))
 

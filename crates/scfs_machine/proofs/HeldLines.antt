@@ -12,7 +12,7 @@ use Rattle.scfs_schedule.specs.declared.types.Line.{Line}
 use Rattle.scfs_session.specs.Contents.{bytes_from}
 use Rattle.scfs_machine.specs.Format.{Setup}
 use Rattle.scfs_machine.specs.History.{Message}
-use Rattle.scfs_machine.specs.Sayings.{Saying, Saw, Opened, Made, Looked, Shown, Wrote, Truncated, Ended, Stored, Refused, said_by}
+use Rattle.scfs_machine.specs.Sayings.{Saying, Saw, Opened, Made, Described, Reads_out, Wrote, Truncated, Ended, Stored, Refuses, said_by}
 use Rattle.scfs_machine.specs.Agents.{Request, Sent, Reaction}
 use Rattle.scfs_machine.specs.Layers.{Row}
 use Rattle.scfs_machine.specs.States.{Reply, request_line}
@@ -85,7 +85,7 @@ module _ (s : Setup) (event : Event) where
 -- a sight is of the agent's own request, and what is shown are bytes of the session that the event reads
 abbrev pub IsSaid : Event → (a : ℕ) → (bytes : ℕ → List ℕ) → Saying → Type 0
 IsSaid event a bytes (Saw request file number) = request.agent ≡ a
-IsSaid event a bytes (Shown h shown) =
+IsSaid event a bytes (Reads_out h shown) =
     (offset : ℕ) × (count : ℕ) × (event ≡ events.Call a (calls.Read h offset count)) × (shown ≡ bytes_from (bytes h) offset count)
 IsSaid event a bytes other = Unit {0}
 
@@ -99,13 +99,13 @@ module _ (s : Setup) (event : Event) (message : Option Message) (a : ℕ) where
       of_same_agent a request.agent (with_reading (λ r. reading_of s x.versions file number)) x own
   saying_becomes bytes x (Opened h number source size) own = of_agent_becomes a (λ y. with_bytes h (bytes_opened s y.reading source) y) x
   saying_becomes bytes x (Made id) own = nothing_becomes a x
-  saying_becomes bytes x (Looked n) own = nothing_becomes a x
-  saying_becomes bytes x (Shown h shown) own = nothing_becomes a x
+  saying_becomes bytes x (Described n) own = nothing_becomes a x
+  saying_becomes bytes x (Reads_out h shown) own = nothing_becomes a x
   saying_becomes bytes x (Wrote h size) own = of_agent_becomes a (λ y. with_bytes h (edited event (y.bytes h)) y) x
   saying_becomes bytes x (Truncated h size) own = of_agent_becomes a (λ y. with_bytes h (edited event (y.bytes h)) y) x
   saying_becomes bytes x (Ended h) own = nothing_becomes a x
   saying_becomes bytes x (Stored h number) own = nothing_becomes a x
-  saying_becomes bytes x (Refused why) own = nothing_becomes a x
+  saying_becomes bytes x (Refuses why) own = nothing_becomes a x
 
   says_become : (bytes : ℕ → List ℕ) (says : List Saying) (x : Seen) → Each (IsSaid event a bytes) says
       → Becomes a x (fold (seen_line s event message) x (map (said_by a) says)) (fold (after_saying s event x.versions) (x.agents a) says)

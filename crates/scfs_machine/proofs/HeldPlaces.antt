@@ -13,7 +13,7 @@ use Rattle.scfs_machine.specs.Lists.{if_some}
 use Rattle.scfs_machine.specs.Format.{Setup}
 use Rattle.scfs_machine.specs.History.{Message}
 use Rattle.scfs_machine.specs.Given.{Given}
-use Rattle.scfs_machine.specs.Sayings.{Saying, Saw, Opened, Made, Looked, Shown, Wrote, Truncated, Ended, Stored, Refused, said_by}
+use Rattle.scfs_machine.specs.Sayings.{Saying, Saw, Opened, Made, Described, Reads_out, Wrote, Truncated, Ended, Stored, Refuses, said_by}
 use Rattle.scfs_machine.specs.Agents.{Agent, Request, Sent, Input, Calls, Reaction}
 use Rattle.scfs_machine.specs.Reactions.{reacted}
 use Rattle.scfs_machine.specs.Layers.{Row, rows}
@@ -35,13 +35,13 @@ module _ (event : Event) (bytes : ℕ → ℕ → List ℕ) (a : ℕ) (y : Agent
   saying_shown (Saw request file number) same is = tt
   saying_shown (Opened h number source size) same is = tt
   saying_shown (Made id) same is = tt
-  saying_shown (Looked n) same is = tt
-  saying_shown (Shown h shown) same is = (is.0, is.1, is.2, is.3 ∙ ap (λ (at : ℕ → List ℕ). bytes_from (at h) is.0 is.1) same)
+  saying_shown (Described n) same is = tt
+  saying_shown (Reads_out h shown) same is = (is.0, is.1, is.2, is.3 ∙ ap (λ (at : ℕ → List ℕ). bytes_from (at h) is.0 is.1) same)
   saying_shown (Wrote h size) same is = tt
   saying_shown (Truncated h size) same is = tt
   saying_shown (Ended h) same is = tt
   saying_shown (Stored h number) same is = tt
-  saying_shown (Refused why) same is = tt
+  saying_shown (Refuses why) same is = tt
 
   says_shown : (says : List Saying) → y.bytes ≡ bytes a → Each (IsSaid event a y.bytes) says → Each (IsShown event bytes) (map (said_by a) says)
   says_shown [] same is = tt

@@ -8,7 +8,7 @@ use Rattle.scfs_machine.specs.Walks.{OrRefusal}
 use Rattle.scfs_machine.specs.NameSteps.{Name_outcome, Makes, Shows}
 use Rattle.scfs_machine.specs.SessionSteps.{Session_step, Open_read, Open_write, Commit, Session_outcome, Sees, Locks, Completes}
 use Rattle.scfs_machine.specs.Steps.{Outcome, Of_names, Of_locks, Of_sessions}
-use Rattle.scfs_machine.specs.Sayings.{Saying, Saw, Opened, Made, Looked, Shown, Wrote, Truncated, Ended, Stored, Refused}
+use Rattle.scfs_machine.specs.Sayings.{Saying, Saw, Opened, Made, Described, Reads_out, Wrote, Truncated, Ended, Stored, Refuses}
 use Rattle.scfs_machine.specs.Agents.{Waiting, For_step, For_clouds, For_close, Closed, Request, Agent, answered, Reaction}
 use Rattle.scfs_machine.specs.Told.{name_answer, is_pending, untold, told_open, told_closed, told_commit, told_sessions, told, tells}
 use Rattle.scfs_machine.specs.Layers.{Row, rows}
@@ -24,7 +24,7 @@ use Rattle.scfs_machine.proofs.HeldOpens.{saw_does}
 abbrev pub IsPlain : Saying → Type 0
 IsPlain (Saw request file number) = ⊥
 IsPlain (Opened h number source size) = ⊥
-IsPlain (Shown h bytes) = ⊥
+IsPlain (Reads_out h bytes) = ⊥
 IsPlain (Wrote h size) = ⊥
 IsPlain (Truncated h size) = ⊥
 IsPlain other = Unit {0}
@@ -59,8 +59,8 @@ module _ (s : Setup) (event : Event) (a : ℕ) (versions : List Version_seen) (y
   answered_does agent waiting later closed
       (Made id) plain is none = record { seated = answered_seated agent waiting closed is none; says = (tt, tt); sent = tt }
   answered_does agent waiting later closed
-      (Looked n) plain is none = record { seated = answered_seated agent waiting closed is none; says = (tt, tt); sent = tt }
-  answered_does agent waiting later closed (Shown h bytes) plain is none = absurd plain
+      (Described n) plain is none = record { seated = answered_seated agent waiting closed is none; says = (tt, tt); sent = tt }
+  answered_does agent waiting later closed (Reads_out h bytes) plain is none = absurd plain
   answered_does agent waiting later closed (Wrote h size) plain is none = absurd plain
   answered_does agent waiting later closed (Truncated h size) plain is none = absurd plain
   answered_does agent waiting later closed
@@ -68,7 +68,7 @@ module _ (s : Setup) (event : Event) (a : ℕ) (versions : List Version_seen) (y
   answered_does agent waiting later closed (Stored h number) plain is none = record
       { seated = answered_seated agent waiting closed is none; says = (tt, tt); sent = tt }
   answered_does agent waiting later closed
-      (Refused why) plain is none = record { seated = answered_seated agent waiting closed is none; says = (tt, tt); sent = tt }
+      (Refuses why) plain is none = record { seated = answered_seated agent waiting closed is none; says = (tt, tt); sent = tt }
 
   -- a step on names
   name_does : (agent : Agent Row) (waiting : Option (Waiting Row)) (closed : List (Closed Row)) (r : OrRefusal Name_outcome) → IsStepping waiting
@@ -76,8 +76,8 @@ module _ (s : Setup) (event : Event) (a : ℕ) (versions : List Version_seen) (y
       → Doing (answered (at agent waiting closed) (name_answer r))
   name_does agent None closed r stepping is none = absurd stepping
   name_does agent (Some For_step) [] (Ok (Makes n)) stepping is none = answered_does agent (Some For_step) (Some For_step) [] (Made n.id) tt is none
-  name_does agent (Some For_step) [] (Ok (Shows n)) stepping is none = answered_does agent (Some For_step) (Some For_step) [] (Looked n) tt is none
-  name_does agent (Some For_step) [] (Err why) stepping is none = answered_does agent (Some For_step) (Some For_step) [] (Refused why) tt is none
+  name_does agent (Some For_step) [] (Ok (Shows n)) stepping is none = answered_does agent (Some For_step) (Some For_step) [] (Described n) tt is none
+  name_does agent (Some For_step) [] (Err why) stepping is none = answered_does agent (Some For_step) (Some For_step) [] (Refuses why) tt is none
   name_does agent (Some For_step) (x ∷ rest) r stepping is none = absurd is.waits
   name_does agent (Some (For_clouds o)) closed r stepping is none = absurd stepping
   name_does agent (Some For_close) closed r stepping is none = absurd stepping
@@ -95,7 +95,7 @@ module _ (s : Setup) (event : Event) (a : ℕ) (versions : List Version_seen) (y
   open_does agent (Some For_step) [] given request h (Ok (Completes number v n)) stepping is none fits own =
       silent_does s event a versions y asked replied (at agent (Some For_step) []) is
   open_does agent (Some For_step) [] given request h (Err why) stepping is none fits own =
-      answered_does agent (Some For_step) (Some For_step) [] (Refused why) tt is none
+      answered_does agent (Some For_step) (Some For_step) [] (Refuses why) tt is none
   open_does agent (Some For_step) (x ∷ rest) given request h r stepping is none fits own = absurd is.waits
   open_does agent (Some (For_clouds o)) closed given request h r stepping is none fits own = absurd stepping
   open_does agent (Some For_close) closed given request h r stepping is none fits own = absurd stepping
@@ -108,7 +108,7 @@ module _ (s : Setup) (event : Event) (a : ℕ) (versions : List Version_seen) (y
   closed_does agent x (Ok (Locks sight l)) is none = silent_does s event a versions y asked replied (at agent (Some For_close) (x ∷ [])) is
   closed_does agent x (Ok (Completes number v n)) is none =
       answered_does agent (Some For_close) (Some For_close) (x ∷ []) (Stored x.number v.number) tt is none
-  closed_does agent x (Err why) is none = answered_does agent (Some For_close) (Some For_close) (x ∷ []) (Refused why) tt is none
+  closed_does agent x (Err why) is none = answered_does agent (Some For_close) (Some For_close) (x ∷ []) (Refuses why) tt is none
 
   commit_does : (agent : Agent Row) (waiting : Option (Waiting Row)) (closed : List (Closed Row)) (r : OrRefusal (Session_outcome Row))
       → IsCommitting s waiting closed → Sits (at agent waiting closed) → busy_asked asked + busy_replied replied ≡ 0

@@ -30,13 +30,13 @@ after_quiet latest [] h = refl
 after_quiet latest (says.Saw request file number ∷ xs) h = absurd h.0
 after_quiet latest (says.Opened session number source size ∷ xs) h = absurd h.0
 after_quiet latest (says.Made id ∷ xs) h = after_quiet latest xs h.1
-after_quiet latest (says.Looked n ∷ xs) h = after_quiet latest xs h.1
-after_quiet latest (says.Shown session bytes ∷ xs) h = after_quiet latest xs h.1
+after_quiet latest (says.Described n ∷ xs) h = after_quiet latest xs h.1
+after_quiet latest (says.Reads_out session bytes ∷ xs) h = after_quiet latest xs h.1
 after_quiet latest (says.Wrote session size ∷ xs) h = after_quiet latest xs h.1
 after_quiet latest (says.Truncated session size ∷ xs) h = after_quiet latest xs h.1
 after_quiet latest (says.Ended session ∷ xs) h = after_quiet latest xs h.1
 after_quiet latest (says.Stored session number ∷ xs) h = after_quiet latest xs h.1
-after_quiet latest (says.Refused why ∷ xs) h = after_quiet latest xs h.1
+after_quiet latest (says.Refuses why ∷ xs) h = after_quiet latest xs h.1
 
 pub after-append : (latest : Option Saw_line) (xs ys : List Saying) → after_says latest (xs ++ ys) ≡ after_says (after_says latest xs) ys
 after-append latest [] ys = refl
@@ -105,13 +105,13 @@ module _ {V : Type 0} (vs : Versions V) (a : ℕ) (K : Saw_line → (number : �
   quiet_ok latest (says.Saw request file number) h = absurd h
   quiet_ok latest (says.Opened session number source size) h = absurd h
   quiet_ok latest (says.Made id) h = tt
-  quiet_ok latest (says.Looked n) h = tt
-  quiet_ok latest (says.Shown session bytes) h = tt
+  quiet_ok latest (says.Described n) h = tt
+  quiet_ok latest (says.Reads_out session bytes) h = tt
   quiet_ok latest (says.Wrote session size) h = tt
   quiet_ok latest (says.Truncated session size) h = tt
   quiet_ok latest (says.Ended session) h = tt
   quiet_ok latest (says.Stored session number) h = tt
-  quiet_ok latest (says.Refused why) h = tt
+  quiet_ok latest (says.Refuses why) h = tt
 
   pub whole_of-steady : (k : ℕ) (latest : Option Saw_line) (g : Agent V) (r : Reaction V) → WaitOk latest g.waiting → Steady k g r
       → Whole k latest g r

@@ -38,13 +38,13 @@ pub said_of_agent : (a : ℕ) (x : Saying) → IsOfAgent (said_by a x)
 said_of_agent a (says.Saw request file number) = tt
 said_of_agent a (says.Opened session number source size) = tt
 said_of_agent a (says.Made id) = tt
-said_of_agent a (says.Looked n) = tt
-said_of_agent a (says.Shown session bytes) = tt
+said_of_agent a (says.Described n) = tt
+said_of_agent a (says.Reads_out session bytes) = tt
 said_of_agent a (says.Wrote session size) = tt
 said_of_agent a (says.Truncated session size) = tt
 said_of_agent a (says.Ended session) = tt
 said_of_agent a (says.Stored session number) = tt
-said_of_agent a (says.Refused why) = tt
+said_of_agent a (says.Refuses why) = tt
 
 pub request_of_agent : (s : Setup) (number : RequestNo) (c : ℕ) (body : CloudRequest) → IsOfAgent (request_line s number c body)
 request_of_agent s number c (requests.Put name body) = tt

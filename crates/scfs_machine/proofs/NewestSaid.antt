@@ -62,25 +62,25 @@ module _ {V : Type 0} (vs : Versions V) (a : ℕ) (K : Saw_line → (number : �
       ∙ saw_said (Some (record { request = request; file = file; number = number })) xs h.1
   saw_said latest (says.Opened session number source size ∷ xs) h = saw_said latest xs h.1
   saw_said latest (says.Made id ∷ xs) h = saw_said latest xs h.1
-  saw_said latest (says.Looked n ∷ xs) h = saw_said latest xs h.1
-  saw_said latest (says.Shown session bytes ∷ xs) h = saw_said latest xs h.1
+  saw_said latest (says.Described n ∷ xs) h = saw_said latest xs h.1
+  saw_said latest (says.Reads_out session bytes ∷ xs) h = saw_said latest xs h.1
   saw_said latest (says.Wrote session size ∷ xs) h = saw_said latest xs h.1
   saw_said latest (says.Truncated session size ∷ xs) h = saw_said latest xs h.1
   saw_said latest (says.Ended session ∷ xs) h = saw_said latest xs h.1
   saw_said latest (says.Stored session number ∷ xs) h = saw_said latest xs h.1
-  saw_said latest (says.Refused why ∷ xs) h = saw_said latest xs h.1
+  saw_said latest (says.Refuses why ∷ xs) h = saw_said latest xs h.1
 
   pub said_unseen : (b : ℕ) → ¬ (b ≡ a) → (x : Saying) → SayOk vs a K final x → IsNoSawBy b (said_by a x)
   said_unseen b other (says.Saw request file number) h = λ e. other (sym e ∙ h.0)
   said_unseen b other (says.Opened session number source size) h = tt
   said_unseen b other (says.Made id) h = tt
-  said_unseen b other (says.Looked n) h = tt
-  said_unseen b other (says.Shown session bytes) h = tt
+  said_unseen b other (says.Described n) h = tt
+  said_unseen b other (says.Reads_out session bytes) h = tt
   said_unseen b other (says.Wrote session size) h = tt
   said_unseen b other (says.Truncated session size) h = tt
   said_unseen b other (says.Ended session) h = tt
   said_unseen b other (says.Stored session number) h = tt
-  said_unseen b other (says.Refused why) h = tt
+  said_unseen b other (says.Refuses why) h = tt
 
 module _ {V : Type 0} (vs : Versions V) (past : History) (e : Entry) (a drawn : ℕ) (asked : List (Request V)) where
   abbrev K : Saw_line → (number : ℕ) → Type 0
@@ -94,10 +94,10 @@ module _ {V : Type 0} (vs : Versions V) (past : History) (e : Entry) (a drawn : 
   said_ok (says.Saw request file number) h = h.1.0.1
   said_ok (says.Opened session number source size) h = (known_newest (latest_saw a (e ∷ past)) number h.0, h.1)
   said_ok (says.Made id) h = tt
-  said_ok (says.Looked n) h = tt
-  said_ok (says.Shown session bytes) h = tt
+  said_ok (says.Described n) h = tt
+  said_ok (says.Reads_out session bytes) h = tt
   said_ok (says.Wrote session size) h = tt
   said_ok (says.Truncated session size) h = tt
   said_ok (says.Ended session) h = tt
   said_ok (says.Stored session number) h = tt
-  said_ok (says.Refused why) h = tt
+  said_ok (says.Refuses why) h = tt

@@ -76,7 +76,7 @@ module _ {V : Type 0} (s : Setup) (vs : Versions V) (a : ℕ) (K : Saw_line → 
 
   whole_gives_up : (g : Agent V) (o : Opening V) (good : ℕ) → IsWhole 0 g (gives_up s vs a g o good)
   whole_gives_up g o good =
-      let first : Reaction V = answered g (says.Refused (refusals.Unavailable (vs.number o.version) good)) in
+      let first : Reaction V = answered g (says.Refuses (refusals.Unavailable (vs.number o.version) good)) in
       whole-followed vs a K 0 latest g first (λ next. if o.writes then asks_step a next
       (On_locks (Unlock (vs.file o.version) o.session)) else silent next)
       (draws_nothing a 0 g, (tt, tt), tt) (steady_back first.agent o o.writes)

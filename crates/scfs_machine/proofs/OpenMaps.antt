@@ -57,7 +57,7 @@ module _ {V W : Type 0} (s : Setup) (ws : Versions W) (g : V → W) (own : Own V
   same_given_up : (a : Agent V) (o : Opening V) (good : ℕ)
       → gives_up s ws who (to.agent g a) (to.opening g o) good ≡ to.reaction g (gives_up s vs who a o good)
   same_given_up a o good =
-      same_followed g _ (answered a (says.Refused (refusals.Unavailable (ws.number (g o.version)) good)))
+      same_followed g _ (answered a (says.Refuses (refusals.Unavailable (ws.number (g o.version)) good)))
       (λ b. if o.writes then asks_step who b (On_locks (Unlock (ws.file (g o.version)) o.session)) else silent b)
       (λ b. if o.writes then asks_step who b (On_locks (Unlock (ws.file (g o.version)) o.session)) else silent b) refl
       (same_if g o.writes _ _ (asks_step who _ (On_locks (Unlock (ws.file (g o.version)) o.session))) (silent _)

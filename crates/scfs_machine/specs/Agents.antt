@@ -145,7 +145,7 @@ module _ {V : Type 0} (a : ℕ) where
   next_asked agent clouds = asked_of a agent.incarnation agent.requests clouds
 
 module _ {V : Type 0} where
-  -- they are made, with these bodies
+  -- these requests to clouds are made, with these bodies
   abbrev pub asks_clouds : Agent V → List Asked → (body : (c : ℕ) → CloudRequest) → Reaction V
   asks_clouds agent asked body =
       record (silent (record agent { requests = agent.requests + length asked })) {

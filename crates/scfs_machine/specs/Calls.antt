@@ -34,7 +34,7 @@ path_names s path = some_names (any_names s path)
 
 module _ {V : Type 0} where
   abbrev pub refuse : Agent V → Refusal → Reaction V
-  refuse agent why = saying agent (says.Refused why)
+  refuse agent why = saying agent (says.Refuses why)
 
   -- on with something, or its refusal
   abbrev pub unless_refused : {X : Type 0} → Agent V → Result X Refusal → (X → Reaction V) → Reaction V
@@ -84,7 +84,7 @@ module _ {V : Type 0} (a : ℕ) where
   called s agent (calls.OpenR path) = unless_refused agent (path_names s path) (λ names. opens agent (Open_read names))
   called s agent (calls.OpenW path) = unless_refused agent (path_names s path) (λ names. opens agent (Open_write names))
   called s agent (calls.Read h offset count) =
-      unless_refused agent (read_answer (session_of agent.sessions h) offset count) (λ bytes. saying agent (says.Shown h bytes))
+      unless_refused agent (read_answer (session_of agent.sessions h) offset count) (λ bytes. saying agent (says.Reads_out h bytes))
   called s agent (calls.Write h offset new) =
       unless_refused agent (after_write (session_of agent.sessions h) offset new) (λ (y : Session).
       saying (with_session agent h y) (says.Wrote h (length y.contents)))

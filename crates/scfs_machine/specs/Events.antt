@@ -3,7 +3,7 @@ use Rattle.scfs_schedule.specs.declared.types.Call.{Call}
 use Rattle.scfs_schedule.specs.declared.types.Event.{Event}
 use Rattle.scfs_schedule.specs.declared.types.Event.TheVariants as events
 
--- what an event is at an agent, at its desk at the space, at a cloud
+-- what an event is at an agent, between it and the space, at a cloud
 pub data At_agent : Type 0 where
   Call_comes : Call → At_agent
   Turn_comes : At_agent
@@ -19,7 +19,7 @@ pub data At_cloud : Type 0 where
   Request_answered : At_cloud
   -- an answer is given to the agent that asked
   Answer_given : At_cloud
-  -- a message is lost, moved or repeated
+  -- a message in a queue is lost, moved to the back or repeated
   Message_moved : At_cloud
 
 -- an event, by where it is

@@ -30,7 +30,7 @@ pub record Setup : Type 0 where
 abbrev pub clouds_of : Setup → ℕ
 clouds_of s = 3 * s.header.f + 1
 
--- all clouds but f are enough for a Put
+-- all clouds but f are enough for an upload
 abbrev pub enough : Setup → ℕ
 enough s = clouds_of s - s.header.f
 

@@ -22,7 +22,7 @@ use Rattle.scfs_machine.specs.Reading.{piece_in, is_awaited, with_piece, read_on
 use Rattle.scfs_machine.specs.Sayings as says
 use Rattle.scfs_machine.specs.Agents.{Opening, For_clouds, Agent, Reaction, silent, saying, answered, followed, ranking, asks_step, next_asked, asks_clouds}
 
--- An open, from its sight on. Below, the agent is given without its unanswered call, which is the open.
+-- An open, from its sight on. Where it is answered, asks clouds or goes on, the agent's unanswered call, which is the open, is set anew.
 
 -- where the contents of an open are: nowhere, for version 0, or on the clouds
 pub data Found (V : Type 0) : Type 0 where
@@ -56,7 +56,7 @@ abbrev pub session_on : {V : Type 0} → Versions V → V → (writes : Bool) �
 session_on vs v writes contents = record { file = vs.file v; base = vs.number v; writes = writes; contents = contents }
 
 module _ {V : Type 0} (s : Setup) (vs : Versions V) (a : ℕ) where
-  -- Gets are asked: what a cloud has under the name, one byte more than its object has
+  -- Gets are asked: what a cloud has under the name, at most one byte more than its object has
   abbrev pub asks_gets : Agent V → Opening V → (clouds : List ℕ) → Reaction V
   asks_gets agent o clouds =
       let gets = next_asked a agent clouds in
@@ -91,7 +91,7 @@ module _ {V : Type 0} (s : Setup) (vs : Versions V) (a : ℕ) where
   -- an open from the clouds is given up; its lock, if it has one, is given back, for which nothing waits
   abbrev pub gives_up : Agent V → Opening V → (good : ℕ) → Reaction V
   gives_up agent o good =
-      followed (answered agent (says.Refused (refusals.Unavailable (vs.number o.version) good)))
+      followed (answered agent (says.Refuses (refusals.Unavailable (vs.number o.version) good)))
       (λ next. if o.writes then asks_step a next (On_locks (Unlock (vs.file o.version) o.session)) else silent next)
 
   -- what becomes of an open from the clouds

@@ -31,7 +31,8 @@ module _ {V : Type 0} (s : Setup) (vs : Versions V) where
 abbrev pub actual : Setup → History → State Row
 actual s past = state_after s rows past
 
--- the file map: each open has the contents of the close that it saw
+-- the file map is the machine at closes: each open has the contents of the close that it saw. It judges what clouds answer by the seals of
+-- its own bytes, and so as agents do wherever each open got what was closed
 abbrev pub mapped : Setup → History → State Version
 mapped s past = state_after s (closes s) past
 
@@ -43,7 +44,8 @@ made s past e = (effect_after s rows past e).lines
 abbrev pub due : Setup → History → Entry → List Line
 due s past e = (effect_after s (closes s) past e).lines
 
--- each event's lines are those that agents, space and clouds make; those that the file map demands
+-- each event's lines are those that agents, space and clouds make; those that the file map demands. Both are said of headers whose agents
+-- are blocking and keep no answers, and of the calls and events that are built
 abbrev pub Happens : Setup → History → Type 0
 Happens s past = Follows s rows past
 

@@ -8,30 +8,31 @@ use Rattle.scfs_schedule.specs.declared.types.Refusal.{Refusal}
 use Rattle.scfs_schedule.specs.declared.types.Src.{Src}
 use Rattle.scfs_machine.specs.Tree.{Node}
 
--- what an agent says. The lines of the space and of clouds are none of these.
+-- what an agent says to its user. The lines of the space, of clouds and of requests are none of these.
 pub data Saying : Type 0 where
   -- the sight of an open: the file and the number of its newest version
   Saw : RequestNo → FileId → (number : ℕ) → Saying
   Opened : (session number : ℕ) → Src → (size : ℕ) → Saying
+  -- a new file; what is known of a node; bytes of a session; the lengths that a session has then
   Made : FileId → Saying
-  Looked : Node → Saying
-  Shown : (session : ℕ) → (bytes : List ℕ) → Saying
+  Described : Node → Saying
+  Reads_out : (session : ℕ) → (bytes : List ℕ) → Saying
   Wrote : (session size : ℕ) → Saying
   Truncated : (session size : ℕ) → Saying
   -- the close of a session that reads, and of one that writes as this version
   Ended : (session : ℕ) → Saying
   Stored : (session number : ℕ) → Saying
-  Refused : Refusal → Saying
+  Refuses : Refusal → Saying
 
 -- the line in which agent a says it
 abbrev pub said_by : (a : ℕ) → Saying → Line
 said_by a (Saw request file number) = lines.Saw request file number
 said_by a (Opened session number source size) = lines.Opened a session number source size
 said_by a (Made id) = lines.OkCreate a id
-said_by a (Looked n) = lines.OkStat a n.kind n.id n.newest n.size hows.Fresh
-said_by a (Shown session bytes) = lines.Data a session bytes
+said_by a (Described n) = lines.OkStat a n.kind n.id n.newest n.size hows.Fresh
+said_by a (Reads_out session bytes) = lines.Data a session bytes
 said_by a (Wrote session size) = lines.OkWrite a session size
 said_by a (Truncated session size) = lines.OkTruncate a session size
 said_by a (Ended session) = lines.OkClose a session
 said_by a (Stored session number) = lines.Closed a session number
-said_by a (Refused why) = lines.No a why
+said_by a (Refuses why) = lines.No a why

@@ -20,8 +20,8 @@ use Rattle.scfs_machine.specs.Opens.{saw}
 -- the answer to a call on names
 abbrev pub name_answer : OrRefusal Name_outcome → Saying
 name_answer (Ok (Makes n)) = says.Made n.id
-name_answer (Ok (Shows n)) = says.Looked n
-name_answer (Err why) = says.Refused why
+name_answer (Ok (Shows n)) = says.Described n
+name_answer (Err why) = says.Refuses why
 
 module _ {V : Type 0} where
   -- whether the reply to a request was not told yet
@@ -36,13 +36,13 @@ module _ {V : Type 0} (s : Setup) (vs : Versions V) (a : ℕ) where
   told_open agent given request h (Ok (Sees sight)) = saw s vs a agent given request h false sight
   told_open agent given request h (Ok (Locks sight l)) = saw s vs a agent given request h true sight
   told_open agent given request h (Ok (Completes session v n)) = silent agent
-  told_open agent given request h (Err why) = answered agent (says.Refused why)
+  told_open agent given request h (Err why) = answered agent (says.Refuses why)
 
   -- the first closed session ends, with the answer to the call that closed it
   abbrev pub told_closed : Agent V → Closed V → OrRefusal (Session_outcome V) → Reaction V
   told_closed agent x (Ok (Completes session v n)) = answered agent (says.Stored x.number (vs.number v))
   told_closed agent x (Ok other) = silent (record agent { closed = x ∷ agent.closed })
-  told_closed agent x (Err why) = answered agent (says.Refused why)
+  told_closed agent x (Err why) = answered agent (says.Refuses why)
 
   abbrev pub told_commit : Agent V → List (Closed V) → OrRefusal (Session_outcome V) → Reaction V
   told_commit agent [] r = silent agent

@@ -6,8 +6,8 @@ use Rattle.scfs_schedule.specs.declared.types.Kind.{Kind}
 use Rattle.scfs_machine.specs.Names.{same_file}
 use Rattle.scfs_machine.specs.Versions.{Versions}
 
--- a name below a directory: a file or a directory. A file has the number of its newest version, which is how often it was closed,
--- and that version's length; both are 0 before the first close
+-- a name below a directory: a file or a directory. A file has the number of its newest version, which is how many closes of
+-- it were completed, and that version's length; both are 0 before the first
 pub record Node : Type 0 where
   pub id : FileId
   pub parent : FileId

@@ -31,7 +31,7 @@ pub record CompletionKeeps {V : Type 0} (vs : Versions V) : Type 0 where
   pub number : (v : V) (now : ℕ) → vs.number (vs.completed v now) ≡ vs.number v
 
 module _ {V : Type 0} where
-  -- the close of a session that makes this request found that session's live lock on the file, and the file at the version before
+  -- a close of the agent that makes this request found a live lock of a session of that agent on the file, and the file at the version before
   abbrev pub HeldLock : Tree V → RequestNo → FileId → (number : ℕ) → Type 0
   HeldLock tree request file number =
       (session : ℕ) × ((l : Lock) × (session_lock tree.locks request file session ≡ Some l)) ×

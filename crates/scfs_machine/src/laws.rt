@@ -38,7 +38,7 @@ pub fn opens_are_newest()
     ensures due { (s : Setup) (past : History) → length past ≤ 2 ^ 32 → Run s past → OpensNewest past }
 {}
 
-/// A close is completed only under its session's live lock, and on the version before.
+/// A close is completed only under a live lock of a session of its agent on the file, and on the version before.
 pub fn commits_held_their_locks()
     ensures made { (s : Setup) (past : History) → Happens s past → CommitsHeldLocks s rows past }
     ensures due { (s : Setup) (past : History) → Run s past → CommitsHeldLocks s (closes s) past }
