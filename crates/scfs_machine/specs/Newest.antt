@@ -28,7 +28,8 @@ is_service request (lines.Looked other) = same_request other request
 is_service request (lines.Locked other file until) = same_request other request
 is_service request other = false
 
--- the part of a history before the entry that has the looked or locked line of a request
+-- the part of a history before the entry that has the looked or locked line of a request (a request is served once; were there two
+-- such entries, this would take the later one)
 abbrev pub before_service : RequestNo → History → Option History
 before_service request [] = None
 before_service request (e ∷ past) = if list_any (is_service request) e.lines then Some past else before_service request past
@@ -45,8 +46,8 @@ after_saw a latest (lines.Saw request file number) =
     if request.agent == a then Some (record { request = request; file = file; number = number }) else latest
 after_saw a latest other = latest
 
--- the latest saw line of an agent. An opened line belongs to this one: an open says what it saw when it is told its sight, and an agent
--- has one open at a time, which says no more until it is opened or refused
+-- the latest saw line of an agent. An opened line belongs to this one: an open says its saw line when it is told its sight, an agent has
+-- one call at a time, and so no other open of it says a saw line before this one is opened or refused
 abbrev pub latest_saw : (a : ℕ) → History → Option Saw_line
 latest_saw a [] = None
 latest_saw a (e ∷ past) = fold (after_saw a) (latest_saw a past) e.lines
