@@ -1,6 +1,7 @@
 pub mod LawLemmas
 pub mod LockLemmas
 pub mod NameLemmas
+pub mod NameStepLemmas
 pub mod OpenLemmas
 pub mod PathLemmas
 pub mod ReplyLemmas

@@ -5,6 +5,7 @@
 mod conditions;
 mod fields;
 mod laws;
+mod name_steps;
 mod path;
 mod replies;
 mod seen;
@@ -16,6 +17,7 @@ pub use fields::number_at;
 pub use laws::{
     locks_are_taken_as_by_the_tree, looks_answer_as_the_tree, opens_answer_as_the_tree,
 };
+pub use name_steps::{create, stat};
 pub use path::Path;
 pub use replies::{refusal, rows, sight, sight_of};
 pub use seen::{Sight, VersionRow};
