@@ -1,9 +1,9 @@
 -- What an agent does on the answer of a cloud to its open.
 use Rattle.std.proofs.Common.{◌≡◌, ℕ, ◌+◌, ◌*◌, ◌<◌, ◌≤◌, List, ◌∷◌, length, Bool, true, false, Option, Some, refl, sym, ap, ◌∙◌, subst, arith}
 use Rattle.std.specs.Prelude.{not, is_none, ◌&&◌, if◌then◌else◌}
+use Rattle.scfs_base.specs.Limits.{contents_limit}
 use Rattle.scfs_base.specs.declared.naming.RequestNo.{RequestNo}
 use Rattle.scfs_base.specs.declared.cloud.CloudAnswer.{CloudAnswer}
-use Rattle.scfs_session.specs.declared.contents.TheConstants.{CONTENTS_LIMIT}
 use Rattle.scfs_quorum_read.specs.Reading.{Reading, Told, Answered, good_piece, is_among, good_pieces, asked, turned, read_step, first_unasked}
 use Rattle.scfs_quorum_read.specs.Tracking.{Tracker, StandsFor, LeavesOpen, left_after}
 use Rattle.scfs_quorum_read.specs.declared.steps.ReadStep.{ReadStep}
@@ -34,7 +34,7 @@ still_open f fetch after c answer is same stands few =
       reading = f_is;
       order = ap (λ (r : Reading). r.order) same ∙ is.order;
       clouds = is.clouds;
-      size = subst (λ (r : Reading). r.size ≤ CONTENTS_LIMIT) (sym same) is.size;
+      size = subst (λ (r : Reading). r.size ≤ contents_limit) (sym same) is.size;
       few = omega arith;
       left = λ e. is.left (sym (left_stays fetch.tracker after past c answer same was (stands past was)) ∙ e);
       told = (Answered c answer ∷ past, stands past was);
@@ -42,13 +42,13 @@ still_open f fetch after c answer is same stands few =
 
 read_by : (f : ℕ) (fetch : Fetch) (after : Tracker) (c : ℕ) (answer : CloudAnswer) (o : Option ℕ) (whole : List ℕ) (step : ReadStep) → IsFetch f fetch
     → after.reading ≡ fetch.tracker.reading → ((past : List Told) → StandsFor fetch.tracker past → StandsFor after (Answered c answer ∷ past))
-    → ((d : ℕ) → o ≡ Some d → d < 3 * f + 1) → length whole ≤ CONTENTS_LIMIT → StepFrom o whole step → LeavesOpen step after
+    → ((d : ℕ) → o ≡ Some d → d < 3 * f + 1) → length whole ≤ contents_limit → StepFrom o whole step → LeavesOpen step after
     → HasRead f (record fetch { tracker = after }) step
 read_by f fetch after c answer o whole (read_steps.Ask d) is same stands one short from few =
     (still_open f fetch after c answer is same stands few, one d from)
 read_by f fetch after c answer o whole read_steps.Wait is same stands one short from few = still_open f fetch after c answer is same stands few
 read_by f fetch after c answer o whole (read_steps.Whole contents) is same stands one short from few =
-    subst (λ (xs : List ℕ). length xs ≤ CONTENTS_LIMIT) (sym from) short
+    subst (λ (xs : List ℕ). length xs ≤ contents_limit) (sym from) short
 
 -- what an answer brought can be done
 pub has_read : (f : ℕ) (fetch : Fetch) (after : Tracker) (c : ℕ) (answer : CloudAnswer) (step : ReadStep) → IsFetch f fetch

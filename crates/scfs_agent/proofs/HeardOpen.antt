@@ -1,11 +1,11 @@
 -- A cloud's answer to an open: all that it can come to.
 use Rattle.std.proofs.Common.{◌≡◌, ℕ, ◌+◌, ◌<◌, ◌≤◌, List, [], ◌∷◌, ◌++◌, length, Bool, true, false, cond, not, ◌&&◌, Option, Some, None, refl, sym, ap, ◌∙◌, subst, arith}
 use Rattle.std.specs.Prelude.{◌==◌, is_none, is_some}
+use Rattle.scfs_base.specs.Limits.{contents_limit}
 use Rattle.scfs_base.specs.declared.naming.RequestNo.{RequestNo}
 use Rattle.scfs_base.specs.declared.cloud.CloudAnswer.{CloudAnswer}
 use Rattle.scfs_schedule.specs.declared.types.Header.{Header}
 use Rattle.scfs_schedule.specs.declared.types.Src.TheVariants as sources
-use Rattle.scfs_session.specs.declared.contents.TheConstants.{CONTENTS_LIMIT}
 use Rattle.scfs_session.specs.declared.sessions.Session.{Session}
 use Rattle.scfs_unit.specs.declared.pieces.KeptPiece.{KeptPiece}
 use Rattle.scfs_unit.specs.Unsealing.{unseal}
@@ -56,9 +56,9 @@ hear_whole header a n base counts own o c request answer ranks piece pieces insi
     let opening = opening_of header a n base (counts_as c true ∷ counts) own o is in
     let contents = unseal header.f (pieces ++ piece ∷ []) in
     let y = session_with o contents in
-    let small : reading.size ≤ CONTENTS_LIMIT = omega arith in
-    let fits : length contents ≤ CONTENTS_LIMIT =
-    subst (λ (l : List KeptPiece). length (unseal header.f l) ≤ CONTENTS_LIMIT) same (short_contents reading past small) in
+    let small : reading.size ≤ contents_limit = omega arith in
+    let fits : length contents ≤ contents_limit =
+    subst (λ (l : List KeptPiece). length (unseal header.f l) ≤ contents_limit) same (short_contents reading past small) in
     let done : saying (opened_as (state_of s a n (reader base o) (counts_as c true ∷ counts) own) o.session y sources.Clouds) (opened_line a o.session y sources.Clouds)
     ≡ reads (counted (state_of s a n (reader base o) counts own) c false) fetch (tracker_at reading past) (read_steps.Whole (unseal header.f (good_pieces reading past))) =
     ap (λ (agent : AgentState). reads agent fetch (tracker_at reading past) (read_steps.Whole contents)) (sym (state_counted header a n base counts own o c (Some piece) inside few))

@@ -2,12 +2,12 @@
 use Rattle.std.proofs.Common.{◌≡◌, ℕ, ◌+◌, ◌≤◌, List, [], ◌∷◌, ◌++◌, length, Bool, true, false, cond, refl, ap, ◌∙◌, arith}
 use Rattle.std.specs.Prelude.{◌==◌, min, Option, Some, None, Result, Ok, Err, not, option_to_list, ◌&&◌}
 use Rattle.std.proofs.lemmas.List.{append-nil}
+use Rattle.scfs_base.specs.Limits.{contents_limit}
 use Rattle.scfs_base.specs.declared.cloud.CloudAnswer.{CloudAnswer}
 use Rattle.scfs_base.specs.declared.cloud.CloudAnswer.TheVariants as answers
 use Rattle.scfs_schedule.specs.declared.types.Event.{Event}
 use Rattle.scfs_schedule.specs.declared.types.Event.TheVariants as events
 use Rattle.scfs_schedule.specs.declared.types.Header.{Header}
-use Rattle.scfs_session.specs.declared.contents.TheConstants.{CONTENTS_LIMIT}
 use Rattle.scfs_unit.specs.declared.pieces.KeptPiece.{KeptPiece}
 use Rattle.scfs_unit.specs.declared.pieces.BadPiece.{BadPiece}
 use Rattle.scfs_unit.specs.Checking.{checked}
@@ -29,11 +29,11 @@ read_of header v order = reading_of header.f (row_of (under header) v) order
 
 -- contents that a session can have
 abbrev pub IsShortVersion : Version → Type 0
-IsShortVersion v = length v.bytes ≤ CONTENTS_LIMIT
+IsShortVersion v = length v.bytes ≤ contents_limit
 
-same_length : (size : ℕ) (r : Result KeptPiece BadPiece) → size ≤ CONTENTS_LIMIT → if_size size (accepted r) ≡ of_length (min size CONTENTS_LIMIT) r
+same_length : (size : ℕ) (r : Result KeptPiece BadPiece) → size ≤ contents_limit → if_size size (accepted r) ≡ of_length (min size contents_limit) r
 same_length size (Ok piece) short =
-    let same : size ≡ min size CONTENTS_LIMIT = omega (arith, short) in
+    let same : size ≡ min size contents_limit = omega (arith, short) in
     ap (λ (n : ℕ). cond (piece.length == n) (Some piece) None) same
 same_length size (Err why) short = refl
 

@@ -9,10 +9,10 @@ use Rattle.std.specs.Map.{remove_entry, set_value}
 use Rattle.std.proofs.lemmas.List.{length-replicate}
 use Rattle.std.proofs.lemmas.List.Elements.{All-head, All-tail, All-cons}
 use Rattle.std.proofs.lemmas.Map.Entries.{All-lookup}
+use Rattle.scfs_base.specs.Limits.{contents_limit}
 use Rattle.scfs_schedule.specs.declared.types.Refusal.TheVariants as refusals
 use Rattle.scfs_session.specs.Contents.{written, resized}
 use Rattle.scfs_session.specs.Open.{OpenSessions, session_of, opened, ended, change_refusal, unless, changed, after_write, after_truncate, sessions_after}
-use Rattle.scfs_session.specs.declared.contents.TheConstants.{CONTENTS_LIMIT}
 use Rattle.scfs_session.specs.declared.sessions.Session.{Session}
 use Rattle.scfs_agent.specs.Standing.{IsShort}
 
@@ -71,11 +71,11 @@ length-written contents offset (b ∷ bytes) most h k =
     simp (length-append, length-take, length-replicate, length-drop) (omega arith)
 
 -- a change that is not refused
-kept_short : (y : Session) (end : ℕ) (contents : List ℕ) → IsShort y → (end ≤ CONTENTS_LIMIT → length contents ≤ CONTENTS_LIMIT) → (z : Session)
+kept_short : (y : Session) (end : ℕ) (contents : List ℕ) → IsShort y → (end ≤ contents_limit → length contents ≤ contents_limit) → (z : Session)
     → unless (change_refusal y end) (record y { contents = contents }) ≡ Ok z → IsShort z
-kept_short y end contents short fits z is = by y.writes (nat_lt CONTENTS_LIMIT end) (λ h. ltb-false CONTENTS_LIMIT end h) is
+kept_short y end contents short fits z is = by y.writes (nat_lt contents_limit end) (λ h. ltb-false contents_limit end h) is
   where
-    by : (w long : Bool) → (long ≡ false → end ≤ CONTENTS_LIMIT)
+    by : (w long : Bool) → (long ≡ false → end ≤ contents_limit)
         → unless (cond w (cond long (Some refusals.TooLong) None) (Some refusals.ReadOnly)) (record y { contents = contents }) ≡ Ok z → IsShort z
     by true true h is = absurd cc
     by true false h is =
@@ -84,7 +84,7 @@ kept_short y end contents short fits z is = by y.writes (nat_lt CONTENTS_LIMIT e
     by false long h is = absurd cc
 
 changed_short : (o : Option Session) (end : ℕ) (change : List ℕ → List ℕ) → IfSome o IsShort
-    → ((contents : List ℕ) → length contents ≤ CONTENTS_LIMIT → end ≤ CONTENTS_LIMIT → length (change contents) ≤ CONTENTS_LIMIT) → (z : Session)
+    → ((contents : List ℕ) → length contents ≤ contents_limit → end ≤ contents_limit → length (change contents) ≤ contents_limit) → (z : Session)
     → changed o end change ≡ Ok z → IsShort z
 changed_short None end change short fits z is = absurd cc
 changed_short (Some y) end change short fits z is = kept_short y end (change y.contents) short (fits y.contents short.1) z is
@@ -92,7 +92,7 @@ changed_short (Some y) end change short fits z is = kept_short y end (change y.c
 pub short_written : (o : Option Session) (offset : ℕ) (bytes : List ℕ) → IfSome o IsShort → (z : Session) → after_write o offset bytes ≡ Ok z → IsShort z
 short_written o offset bytes short z is =
     changed_short o (offset + length bytes) (λ contents. written contents offset bytes) short
-    (λ contents h k. length-written contents offset bytes CONTENTS_LIMIT h k) z is
+    (λ contents h k. length-written contents offset bytes contents_limit h k) z is
 
 pub short_cut : (o : Option Session) (size : ℕ) → IfSome o IsShort → (z : Session) → after_truncate o size ≡ Ok z → IsShort z
 short_cut o size short z is =

@@ -1,12 +1,12 @@
 -- An agent is told a sight of a version, and reads it from the clouds.
 use Rattle.std.proofs.Common.{◌≡◌, ℕ, ◌+◌, ◌≤◌, List, [], ◌∷◌, ◌++◌, length, map, take, Bool, false, ap, sym, ◌∙◌, subst, Option, Some, None, append-nil, arith, Contains}
 use Rattle.std.proofs.lemmas.List.{length-map}
+use Rattle.scfs_base.specs.Limits.{contents_limit}
 use Rattle.scfs_base.specs.declared.naming.FileId.{FileId}
 use Rattle.scfs_schedule.specs.declared.types.Event.{Event}
 use Rattle.scfs_schedule.specs.declared.types.Header.{Header}
 use Rattle.scfs_schedule.specs.declared.types.Line.TheVariants as lines
 use Rattle.scfs_anchor.specs.Replies.{IsRow}
-use Rattle.scfs_session.specs.declared.contents.TheConstants.{CONTENTS_LIMIT}
 use Rattle.scfs_model.specs.Format.{Setup}
 use Rattle.scfs_model.specs.UnitFormat.{under}
 use Rattle.scfs_model.specs.History.{History}
@@ -46,7 +46,7 @@ fetched s a i m counted own ranks x h writes file newest v =
 pub agrees_fetched : (header : Header) (a i : ℕ) (m : Agent) (counted : List Counted) (own : History) (event : Event) (ranks : List ℕ) (x : Ask)
     (h : ℕ) (writes : Bool) (file : FileId) (newest : ℕ) (v : Version)
     → IsAgent (under header) a m own → HasDrawn i m → length counted ≤ i → is_unlock x.step ≡ false → Contains m.pending x
-    → IsRow (row_of (under header) v) → v.number ≤ 1000000 → length v.bytes ≤ CONTENTS_LIMIT
+    → IsRow (row_of (under header) v) → v.number ≤ 1000000 → length v.bytes ≤ contents_limit
     → Agrees (under header) a counted own event ranks (fetched (under header) a i m counted own ranks x h writes file newest v)
     (reaction_of a (fetching (under header) m ranks x h writes file newest v))
 agrees_fetched header a i m counted own event ranks x h writes file newest v valid drawn few waits has row number bytes =

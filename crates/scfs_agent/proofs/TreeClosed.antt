@@ -2,13 +2,13 @@ use Rattle.std.proofs.Common.{◌≡◌, ℕ, ◌+◌, ◌<◌, ◌≤◌, ◌^�
 use Rattle.std.specs.Prelude.{length}
 use Rattle.std.proofs.lemmas.List.{append-nil}
 use Rattle.std.proofs.lemmas.List.Elements.{filter_map-append}
+use Rattle.scfs_base.specs.Limits.{contents_limit}
 use Rattle.sha2.proofs.Facts256.{length-sha256}
 use Rattle.scfs_base.specs.declared.naming.RequestNo.{RequestNo}
 use Rattle.scfs_base.specs.declared.naming.UploadNo.{UploadNo}
 use Rattle.scfs_schedule.specs.declared.types.Header.{Header}
 use Rattle.scfs_schedule.specs.declared.types.Kind.TheVariants.{File}
 use Rattle.scfs_session.specs.declared.sessions.Session.{Session}
-use Rattle.scfs_session.specs.declared.contents.TheConstants.{CONTENTS_LIMIT}
 use Rattle.scfs_anchor.specs.Tree.{Each, IsEntry, IsNode, IsVersion}
 use Rattle.scfs_anchor.proofs.SightLemmas.{number_eq}
 use Rattle.scfs_model.specs.Format.{Setup}
@@ -40,7 +40,7 @@ second_true true t h = h
 second_true false t h = cc
 
 -- the row of the version that is completed fits
-row_fits : (header : Header) (now : ℕ) (y : Session) (u : UploadNo) → y.base + 1 ≤ 1000000 → length y.contents ≤ CONTENTS_LIMIT → IsUpload u → IsVersion now (row_of (under header) (completed now y u))
+row_fits : (header : Header) (now : ℕ) (y : Session) (u : UploadNo) → y.base + 1 ≤ 1000000 → length y.contents ≤ contents_limit → IsUpload u → IsVersion now (row_of (under header) (completed now y u))
 row_fits header now y u few short fits =
     let count : u.count < 2 ^ 32 = fits.count in
     let incarnation : u.incarnation < 2 ^ 24 = fits.incarnation in
@@ -61,7 +61,7 @@ row_fits header now y u few short fits =
     }
 
 -- the file's node and the session's lock were there
-came_stays : (header : Header) (now most : ℕ) (tree : Tree) (request : RequestNo) (session : ℕ) (y : Session) (u : UploadNo) → Before (under header) now most tree → most < 1000000 → length y.contents ≤ CONTENTS_LIMIT → IsUpload u → (n : Node) → node_at tree y.file y.base ≡ Some n → (n.id.0 ≡ y.file.0) × (n.kind ≡ File) → Stays (under header) now (most + 1) (opened_up tree request session y ++ Of_node (renewed n (y.base + 1) (length y.contents)) ∷ Of_version (completed now y u) ∷ [])
+came_stays : (header : Header) (now most : ℕ) (tree : Tree) (request : RequestNo) (session : ℕ) (y : Session) (u : UploadNo) → Before (under header) now most tree → most < 1000000 → length y.contents ≤ contents_limit → IsUpload u → (n : Node) → node_at tree y.file y.base ≡ Some n → (n.id.0 ≡ y.file.0) × (n.kind ≡ File) → Stays (under header) now (most + 1) (opened_up tree request session y ++ Of_node (renewed n (y.base + 1) (length y.contents)) ∷ Of_version (completed now y u) ∷ [])
 came_stays header now most tree request session y u is low short fits n e at =
     let s = under header in
     let test = is_at y.file y.base in
@@ -90,12 +90,12 @@ came_stays header now most tree request session y u is low short fits n e at =
     (λ l h. each_append (λ (m : Node). m.id.0 ≡ l.file.0 → m.kind ≡ File) (without_first test (nodes tree)) (new ∷ []) (each_without (λ (m : Node). m.id.0 ≡ l.file.0 → m.kind ≡ File) test (nodes tree) h) ((λ i. at.1), tt)) (locks tree) is.files))
     (each_append (λ (m : Node). m.newest ≤ most + 1) (without_first test (nodes tree)) (new ∷ []) (each_without (λ (m : Node). m.newest ≤ most + 1) test (nodes tree) (more most (nodes tree) is.few)) (omega arith, tt))
 
-by_found : (header : Header) (now most : ℕ) (tree : Tree) (request : RequestNo) (session : ℕ) (y : Session) (u : UploadNo) → Before (under header) now most tree → most < 1000000 → length y.contents ≤ CONTENTS_LIMIT → IsUpload u → (o : Option Lock) (n : Option Node) → node_at tree y.file y.base ≡ n → ((l : Lock) → o ≡ Some l → AtFile y.file n) → Stays (under header) now (most + 1) (closed_tree tree request session y (committed o n (completed now y u)))
+by_found : (header : Header) (now most : ℕ) (tree : Tree) (request : RequestNo) (session : ℕ) (y : Session) (u : UploadNo) → Before (under header) now most tree → most < 1000000 → length y.contents ≤ contents_limit → IsUpload u → (o : Option Lock) (n : Option Node) → node_at tree y.file y.base ≡ n → ((l : Lock) → o ≡ Some l → AtFile y.file n) → Stays (under header) now (most + 1) (closed_tree tree request session y (committed o n (completed now y u)))
 by_found header now most tree request session y u is low short fits None n e at = stay (under header) now most tree is
 by_found header now most tree request session y u is low short fits (Some l) None e at = stay (under header) now most tree is
 by_found header now most tree request session y u is low short fits (Some l) (Some n) e at = came_stays header now most tree request session y u is low short fits n e (at l refl)
 
-pub commit_stays : (header : Header) (now most : ℕ) (tree : Tree) (request : RequestNo) (session : ℕ) (y : Session) (u : UploadNo) → Before (under header) now most tree → most < 1000000 → length y.contents ≤ CONTENTS_LIMIT → IsUpload u → Stays (under header) now (most + 1) (closed_tree tree request session y (committed (session_lock tree request y.file session) (node_at tree y.file y.base) (completed now y u)))
+pub commit_stays : (header : Header) (now most : ℕ) (tree : Tree) (request : RequestNo) (session : ℕ) (y : Session) (u : UploadNo) → Before (under header) now most tree → most < 1000000 → length y.contents ≤ contents_limit → IsUpload u → Stays (under header) now (most + 1) (closed_tree tree request session y (committed (session_lock tree request y.file session) (node_at tree y.file y.base) (completed now y u)))
 commit_stays header now most tree request session y u is low short fits =
     let all = held_files request y.file session (nodes tree) (locks tree) is.files in
     by_found header now most tree request session y u is low short fits (session_lock tree request y.file session) (node_at tree y.file y.base) refl

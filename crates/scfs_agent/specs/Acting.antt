@@ -1,6 +1,7 @@
 use Rattle.std.specs.Prelude.{◌≡◌, is_none, ℕ, ◌+◌, ◌-◌, ◌*◌, List, [], ◌∷◌, ◌++◌, length, map, filter, take, Bool, true, false, ◌&&◌, not, ◌==◌, nat_le, nat_lt, if◌then◌else◌, Option, Some, None, Result, Ok, Err, slice_get, slice_set, min}
 use Rattle.std.specs.List.{list_any, slice_index_or}
 use Rattle.std.specs.FinSet as set
+use Rattle.scfs_base.specs.Limits.{contents_limit}
 use Rattle.scfs_base.specs.declared.naming.RequestNo.{RequestNo}
 use Rattle.scfs_base.specs.declared.naming.FileId.{FileId}
 use Rattle.scfs_base.specs.declared.cloud.CloudAnswer.{CloudAnswer}
@@ -21,7 +22,6 @@ use Rattle.scfs_tuples.specs.declared.types.Step.{Step}
 use Rattle.scfs_tuples.specs.declared.types.Reply.{Reply}
 use Rattle.scfs_tuples.specs.declared.types.StepResult.{StepResult}
 use Rattle.scfs_tuples.specs.declared.types.StepResult.TheVariants as results
-use Rattle.scfs_session.specs.declared.contents.TheConstants.{CONTENTS_LIMIT}
 use Rattle.scfs_session.specs.declared.sessions.Session.{Session}
 use Rattle.scfs_session.specs.Open.{session_of, opened, ended, read_answer, after_write, after_truncate, sessions_after}
 use Rattle.scfs_unit.specs.Checking.{object_size}
@@ -261,7 +261,7 @@ opened_line a h y source = lines.Opened a h y.base source (length y.contents)
 
 -- what is read of a version from the clouds, in this order, for at most eight turns; no contents are longer than a session's may be
 abbrev pub reading_of : (f : ℕ) → VersionRow → (order : List ℕ) → Reading
-reading_of f row order = record { f = f; root = row.root; size = min row.length CONTENTS_LIMIT; order = order; turns = Some 8 }
+reading_of f row order = record { f = f; root = row.root; size = min row.length contents_limit; order = order; turns = Some 8 }
 
 -- the tracker of a reading after what was told
 abbrev pub tracker_at : Reading → List Told → Tracker

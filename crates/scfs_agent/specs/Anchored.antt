@@ -1,4 +1,5 @@
 use Rattle.std.specs.Prelude.{◌≡◌, ◌<◌, ◌≤◌, ◌^◌, ℕ, ◌+◌, zero, suc, List, [], ◌∷◌, ◌++◌, length, map, codes, Option, Some, None, option_map}
+use Rattle.scfs_base.specs.Limits.{contents_limit}
 use Rattle.scfs_base.specs.declared.naming.FileId.{FileId}
 use Rattle.scfs_base.specs.declared.naming.RequestNo.{RequestNo}
 use Rattle.scfs_base.specs.declared.naming.UploadNo.{UploadNo}
@@ -24,7 +25,6 @@ use Rattle.scfs_anchor.specs.Shapes.{node, text, directory, given, given_text, r
 use Rattle.scfs_anchor.specs.Plans.{Condition, needs, reach, before_last, Plan, open_read, open_write, commit, unlock}
 use Rattle.scfs_anchor.specs.Plans as plans
 use Rattle.scfs_anchor.specs.Replies.{ShowsSight, refusal_in, IsRow}
-use Rattle.scfs_session.specs.declared.contents.TheConstants.{CONTENTS_LIMIT}
 use Rattle.scfs_anchor.specs.Tree.{Entry, OfNode, OfVersion, OfLock, tuples_of, IsNode, kind_number}
 use Rattle.scfs_model.specs.Format.{Setup, sealed}
 use Rattle.scfs_model.specs.Tree.{Node, Version, Lock, Item, Of_node, Of_version, Of_lock, Tree, live}
@@ -162,7 +162,7 @@ FitsNode n = IsNode (record { id = n.id; parent = n.parent; name = n.name; kind 
 
 abbrev pub FitsVersion : Setup → Option Version → Type 0
 FitsVersion s None = Unit {0}
-FitsVersion s (Some v) = IsRow (row_of s v) × (v.number ≤ 1000000) × (length v.bytes ≤ CONTENTS_LIMIT)
+FitsVersion s (Some v) = IsRow (row_of s v) × (v.number ≤ 1000000) × (length v.bytes ≤ contents_limit)
 
 abbrev pub FitsSight : Setup → model.Sight → Type 0
 FitsSight s sight = (sight.file.0 < 2 ^ 64) × (sight.number ≤ 1000000) × FitsVersion s sight.version

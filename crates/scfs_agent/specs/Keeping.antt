@@ -1,8 +1,8 @@
 use Rattle.std.specs.Prelude.{◌≡◌, ◌≢◌, ◌<◌, ◌≤◌, ◌^◌, ℕ, ◌+◌, ◌*◌, List, [], ◌∷◌, length, codes, Bool, true, false, Some, None}
+use Rattle.scfs_base.specs.Limits.{contents_limit}
 use Rattle.scfs_base.specs.declared.naming.FileId.{FileId}
 use Rattle.scfs_tuples.specs.declared.types.Template.{Template}
 use Rattle.scfs_policy.specs.declared.rank.RankFacts.{RankFacts}
-use Rattle.scfs_session.specs.declared.contents.TheConstants.{CONTENTS_LIMIT}
 use Rattle.scfs_session.specs.declared.sessions.Ended.{Ended}
 use Rattle.scfs_session.specs.declared.sessions.Session.{Session}
 use Rattle.scfs_anchor.specs.Plans.{Condition}
@@ -31,7 +31,7 @@ pub record IsFetch (f : ℕ) (fetch : Fetch) : Type 0 where
   pub reading : fetch.tracker.reading.f ≡ f
   pub order : fetch.tracker.reading.order ≡ fetch.order
   pub clouds : IsOrder f fetch.order
-  pub size : fetch.tracker.reading.size ≤ CONTENTS_LIMIT
+  pub size : fetch.tracker.reading.size ≤ contents_limit
   pub few : length fetch.tracker.pieces ≤ f
   pub left : fetch.tracker.left ≢ Some 0
   pub told : (past : List Told) × StandsFor fetch.tracker past
@@ -95,7 +95,7 @@ is_idle (works.Upload upload) = false
 abbrev pub HasRead : (f : ℕ) → Fetch → ReadStep → Type 0
 HasRead f fetch (read_steps.Ask cloud) = IsFetch f fetch × (cloud < 3 * f + 1)
 HasRead f fetch read_steps.Wait = IsFetch f fetch
-HasRead f fetch (read_steps.Whole contents) = length contents ≤ CONTENTS_LIMIT
+HasRead f fetch (read_steps.Whole contents) = length contents ≤ contents_limit
 
 -- what an ended session leaves, as the session that it was
 abbrev pub left_session : Ended → Session

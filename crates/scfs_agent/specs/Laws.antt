@@ -1,10 +1,10 @@
 use Rattle.std.specs.Prelude.{◌≡◌, ◌≢◌, ◌<◌, ◌≤◌, ◌^◌, ◌+◌, ℕ, [], length}
+use Rattle.scfs_base.specs.Limits.{contents_limit}
 use Rattle.scfs_base.specs.declared.naming.RequestNo.{RequestNo}
 use Rattle.scfs_base.specs.declared.naming.UploadNo.{UploadNo}
 use Rattle.scfs_schedule.specs.Grammar.{IsHeader}
 use Rattle.scfs_schedule.specs.declared.types.Header.{Header}
 use Rattle.scfs_schedule.specs.declared.types.Kind.TheVariants.{File}
-use Rattle.scfs_session.specs.declared.contents.TheConstants.{CONTENTS_LIMIT}
 use Rattle.scfs_anchor.specs.Tree.{Each, IsTree}
 use Rattle.scfs_model.specs.Tree.{Node, Lock, Tree, nodes, locks, live}
 use Rattle.scfs_model.specs.Steps.{Step, Create, Stat, Open_read, Open_write, Commit, Unlock, outcome, tree_after}
@@ -23,7 +23,7 @@ IsAskable (Create names id) = (names ≢ []) × (id.0 < 2 ^ 64)
 IsAskable (Stat names) = Unit {0}
 IsAskable (Open_read names session) = names ≢ []
 IsAskable (Open_write names session) = (names ≢ []) × (session < 2 ^ 64)
-IsAskable (Commit session y u) = (y.base ≤ 1000000) × (length y.contents ≤ CONTENTS_LIMIT) × IsUpload u
+IsAskable (Commit session y u) = (y.base ≤ 1000000) × (length y.contents ≤ contents_limit) × IsUpload u
 IsAskable (Unlock file session) = Unit {0}
 
 -- a close is of an upload of the agent, in the incarnation, that makes the request

@@ -1,6 +1,7 @@
 use Rattle.std.specs.Prelude.{◌≡◌, ◌≢◌, ℕ, ◌^◌, ◌<◌, ◌≤◌, ◌==◌, List, [], ◌∷◌, ◌++◌, length, map, find, min, Bool, true, false, not, if◌then◌else◌, Option, Some, None, option_map, All, AllPairs}
 use Rattle.std.specs.List.{list_any}
 use Rattle.std.specs.FinSet as set
+use Rattle.scfs_base.specs.Limits.{contents_limit}
 use Rattle.scfs_base.specs.declared.naming.UploadNo.{UploadNo}
 use Rattle.scfs_schedule.specs.declared.types.Event.{Event}
 use Rattle.scfs_schedule.specs.declared.types.Event.TheVariants as events
@@ -12,7 +13,6 @@ use Rattle.scfs_model.specs.Format.{Setup, clouds_of, enough, seed_of, sealed}
 use Rattle.scfs_model.specs.History.{Message, Entry, History}
 use Rattle.scfs_model.specs.History as history
 use Rattle.scfs_session.specs.declared.sessions.Session.{Session}
-use Rattle.scfs_session.specs.declared.contents.TheConstants.{CONTENTS_LIMIT}
 use Rattle.scfs_model.specs.Steps.{Step, Create, Stat, Open_read, Open_write, Commit, Unlock}
 use Rattle.scfs_model.specs.Ranks.{Counted, good_count, bad_count}
 use Rattle.scfs_model.specs.Agents.{Opening, Waiting, For_step, For_clouds, For_close, Closed, Ask, Agent}
@@ -155,7 +155,7 @@ AreAskedOf gets clouds = (c : ℕ) → list_any (λ (g : Requested). g.cloud == 
 pub record IsOpening (s : Setup) (own : History) (o : Opening) : Type 0 where
   pub row : IsRow (row_of s o.version)
   pub number : o.version.number ≤ 1000000
-  pub bytes : length o.version.bytes ≤ CONTENTS_LIMIT
+  pub bytes : length o.version.bytes ≤ contents_limit
   pub asked : AreAskedOf (gets_since own) (asked (reading_of s.header.f (row_of s o.version) (order_since own)) (told_since own))
 
 -- what holds of a closed session's upload: it began, and has its commit once enough clouds acknowledged
@@ -183,7 +183,7 @@ IsWaiting s own a incarnation uploads waiting closed step = ⊥
 
 -- a session began from a small version, and its contents are short
 abbrev pub IsShort : Session → Type 0
-IsShort y = (y.base ≤ 1000000) × (length y.contents ≤ CONTENTS_LIMIT)
+IsShort y = (y.base ≤ 1000000) × (length y.contents ≤ contents_limit)
 
 -- what holds of an agent of the file map after its part of a history
 pub record IsAgent (s : Setup) (a : ℕ) (m : Agent) (own : History) : Type 0 where

@@ -1,7 +1,7 @@
 ghost use Rattle.std.specs.Prelude.{◌≡◌, ◌<◌, ◌+◌, ◌*◌, ◌≤◌, ℕ, List, length, filter, not, ◌==◌, IfOk, OnOk};
 ghost use Rattle.std.specs.List.{All};
+ghost use Rattle.scfs_base.specs.Limits.{contents_limit};
 ghost use Rattle.scfs_session.specs.declared.sessions.Session.{Session};
-ghost use Rattle.scfs_session.specs.declared.contents.TheConstants.{CONTENTS_LIMIT};
 ghost use Rattle.scfs_quorum_read.specs.Reading.{Told, is_among};
 ghost use Rattle.scfs_quorum_read.specs.Tracking.{StandsFor};
 ghost use Rattle.scfs_agent.specs.Acting.{DoesAs, fetches, opened_as, opened_line, saying, asks_gets, reads, heard_fetch, turned_fetch, fetch_turns, unlocks_if, first_says, counted, one_more};
@@ -51,7 +51,7 @@ impl Agent {
         source: Src,
     ) -> Result<Sequence<Output>, Memory>
         requires idle { self.old.work ≡ works.Idle }
-        requires short { length contents ≤ CONTENTS_LIMIT }
+        requires short { length contents ≤ contents_limit }
         ensures does { IfOk result (λ given. let y : Session = record { file = id; base = base; writes = writes; contents = contents } in
             DoesAs self.new given (saying (opened_as self.old session y source) (opened_line self.old.no session y source))) }
         ensures asks { IfOk result (λ given. All (FitsOutput self.old.f) given) }

@@ -1,8 +1,8 @@
 ghost use Rattle.std.specs.Prelude.{◌≡◌, ◌<◌, ◌+◌, ◌-◌, ◌*◌, ◌≤◌, ◌^◌, List, length, filter, not, IfOk, OnOk};
 ghost use Rattle.std.specs.List.{All};
 ghost use Rattle.std.specs.FinSet as set;
+ghost use Rattle.scfs_base.specs.Limits.{contents_limit};
 ghost use Rattle.scfs_session.specs.Open.{OpenSessions, ended};
-ghost use Rattle.scfs_session.specs.declared.contents.TheConstants.{CONTENTS_LIMIT};
 ghost use Rattle.scfs_quorum_write.specs.Acks.{clouds_of};
 ghost use Rattle.scfs_model.specs.Lists.{below};
 ghost use Rattle.scfs_model.specs.Names.{upload_no};
@@ -73,7 +73,7 @@ impl Agent {
     /// The upload of a closed session begins: its number is drawn, it is sealed, and its Puts are asked of all clouds.
     pub(crate) fn begin(&mut self, session: u64, left: &Ended) -> Result<Sequence<Output>, Memory>
         requires room { HasRoom self.old }
-        requires short { length left.now.contents ≤ CONTENTS_LIMIT }
+        requires short { length left.now.contents ≤ contents_limit }
         ensures does { IfOk result (λ given. (sessions : OpenSessions) → self.old.sessions ≡ ended sessions session →
             DoesAs self.new given (begins (record self.old { sessions = sessions }) session (left_session left.now))) }
         ensures asks { IfOk result (λ given. All (FitsOutput self.old.f) given) }
@@ -98,7 +98,7 @@ impl Agent {
 
     /// What a closed session leaves, sealed under what is drawn for this upload.
     fn sealed(&self, count: u32, left: &Ended) -> Result<Sealed, Memory>
-        requires { length left.now.contents ≤ CONTENTS_LIMIT }
+        requires { length left.now.contents ≤ contents_limit }
         ensures { IfOk result (λ it. it ≡ unit.sealed self.now.f
             (draw_for self.now.f self.now.seed (upload_no self.now.no self.now.incarnation count)) left.now.contents) }
     {
@@ -121,7 +121,7 @@ impl Agent {
 
     /// The row of the version that a closed session will be.
     fn row_from(&self, count: u32, left: &Ended, it: &Sealed) -> VersionRow
-        requires { length left.now.contents ≤ CONTENTS_LIMIT }
+        requires { length left.now.contents ≤ contents_limit }
         ensures row { result ≡ row_from (left_session left.now) count self.now it.now }
         ensures number { 1 ≤ result.number }
     {

@@ -2,7 +2,7 @@ use Rattle.std.specs.Prelude.{◌≡◌, ◌≢◌, ◌<◌, ◌≤◌, ◌^◌,
 use Rattle.scfs_base.specs.declared.naming.RequestNo.{RequestNo}
 use Rattle.scfs_base.specs.declared.naming.UploadNo.{UploadNo}
 use Rattle.scfs_schedule.specs.declared.types.Kind.TheVariants.{File}
-use Rattle.scfs_session.specs.declared.contents.TheConstants.{CONTENTS_LIMIT}
+use Rattle.scfs_base.specs.Limits.{contents_limit}
 use Rattle.scfs_tuples.specs.After.{reply_of, left_after}
 use Rattle.scfs_tuples.specs.declared.types.Tuple.{Tuple}
 use Rattle.scfs_machine.specs.Layers.{Row, rows}
@@ -29,7 +29,7 @@ pub record IsClosing (request : RequestNo) (v : Row) : Type 0 where
   pub last : v.number ≤ 1000001
   pub root : length v.root.0 ≡ 32
   pub content : length v.content.0 ≡ 32
-  pub short : v.length ≤ CONTENTS_LIMIT
+  pub short : v.length ≤ contents_limit
   pub upload : IsUpload v.upload
   pub agent : v.upload.agent ≡ request.agent
   pub incarnation : v.upload.incarnation ≡ request.incarnation

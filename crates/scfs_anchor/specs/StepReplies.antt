@@ -1,7 +1,7 @@
 use Rattle.std.specs.Prelude.{◌≡◌, ◌<◌, ◌≤◌, ◌^◌, ℕ, List, [], ◌∷◌, ◌++◌, Option, Some, None, option_map, Ok, Err}
 use Rattle.scfs_base.specs.declared.naming.RequestNo.{RequestNo}
 use Rattle.scfs_schedule.specs.declared.types.Refusal.{Refusal}
-use Rattle.scfs_session.specs.declared.contents.TheConstants.{CONTENTS_LIMIT}
+use Rattle.scfs_base.specs.Limits.{contents_limit}
 use Rattle.scfs_tuples.specs.declared.types.Field.{Field}
 use Rattle.scfs_tuples.specs.declared.types.Field.TheVariants as fields
 use Rattle.scfs_tuples.specs.declared.types.Tuple.{Tuple}
@@ -91,7 +91,7 @@ FitsNode n = IsNode (node_said n)
 
 abbrev pub FitsVersion : Option Row → Type 0
 FitsVersion None = Unit {0}
-FitsVersion (Some v) = IsRow (row_said v) × (v.number ≤ 1000000) × (v.length ≤ CONTENTS_LIMIT)
+FitsVersion (Some v) = IsRow (row_said v) × (v.number ≤ 1000000) × (v.length ≤ contents_limit)
 
 abbrev pub FitsSight : machine.Sight Row → Type 0
 FitsSight sight = (sight.file.0 < 2 ^ 64) × (sight.number ≤ 1000000) × FitsVersion sight.version

@@ -1,6 +1,6 @@
 use Rattle.std.specs.Prelude.{◌≡◌, ◌≢◌, ◌≤◌, ◌<◌, ℕ, ◌+◌, List, [], ◌++◌, length, Option, IfSome}
+use Rattle.scfs_base.specs.Limits.{input_limit}
 use Rattle.scfs_base.specs.Outside.{Takes, Puts}
-use Rattle.scfs_schedule.specs.declared.limits.TheConstants.{INPUT_LIMIT}
 use Rattle.scfs_schedule.specs.Reading.{Reading, gives}
 use Rattle.scfs_cli.specs.declared.edges.PieceRead.{PieceRead}
 use Rattle.scfs_cli.specs.declared.edges.PieceRead.TheVariants as reads
@@ -41,7 +41,7 @@ TakesPiece left left' old new room reads.Memory = (taken : List ℕ) × (length 
 pub record Fills (left left' : Option (List ℕ)) (old new : Reading) (filled : Filled) : Type 0 where
   pub taken : List ℕ
   pub takes : Takes left left' taken
-  pub few : length taken ≤ INPUT_LIMIT + 1
-  pub full : filled ≡ filleds.Full → length taken ≡ INPUT_LIMIT + 1
+  pub few : length taken ≤ input_limit + 1
+  pub full : filled ≡ filleds.Full → length taken ≡ input_limit + 1
   pub nothing_left : filled ≡ filleds.End → IfSome left' (λ rest. rest ≡ [])
   pub feeds : filled ≢ filleds.Memory → Feeds old new taken

@@ -1,6 +1,6 @@
 use Rattle.std.specs.Prelude.{◌≡◌, ◌⊎◌, ◌<◌, ◌≤◌, ℕ, List, [], ◌∷◌, Option, Some, None}
+use Rattle.scfs_base.specs.Limits.{carried_limit}
 use Rattle.scfs_policy.specs.declared.rank.RankFacts.{RankFacts}
-use Rattle.scfs_net.specs.declared.messages.TheConstants.{CARRIED_LIMIT}
 use Rattle.scfs_schedule.specs.declared.types.Event.{Event}
 use Rattle.scfs_schedule.specs.declared.types.Header.{Header}
 use Rattle.scfs_model.specs.Due.{actual}
@@ -16,7 +16,7 @@ use Rattle.scfs_cli.specs.Playing.{Playing}
 abbrev pub IsTooLargeNext : (allows : RankFacts → ℕ → Type 0) → Header → History → Event → Type 0
 IsTooLargeNext allows header past event =
     (ranks : List ℕ) × Answers allows (facts_asked (under header) (actual (under header) past) event) ranks
-    × (CARRIED_LIMIT < carried_after (under header) past event ranks)
+    × (carried_limit < carried_after (under header) past event ranks)
 
 -- How a history ends what is played of a text. With a finish: it has all its events, and the text's finish; or its next event would
 -- carry too many bytes. With none, where writing failed or memory was wanting: it has the first of them.

@@ -1,7 +1,7 @@
 use Rattle.std.specs.Prelude.{◌≡◌, ◌≤◌, ℕ, ◌+◌, List, [], ◌∷◌, ◌++◌, codes, Bool, false, length, Option, Some, None, IfSome}
 use Rattle.std.specs.Str.{bytes_eq}
+use Rattle.scfs_base.specs.Limits.{input_limit}
 use Rattle.scfs_base.specs.Outside.{Takes, Puts, Rose}
-use Rattle.scfs_schedule.specs.declared.limits.TheConstants.{INPUT_LIMIT}
 use Rattle.scfs_schedule.specs.declared.types.Header.{Header}
 use Rattle.scfs_schedule.specs.Reading.{read}
 use Rattle.scfs_policy.specs.declared.rank.RankFacts.{RankFacts}
@@ -85,8 +85,8 @@ pub record ReplaysText (allows : RankFacts → ℕ → Type 0) (taken : List ℕ
 pub record Replays (allows : RankFacts → ℕ → Type 0) (left left' before after : Option (List ℕ)) (filled : Filled) (status : Status) : Type 0 where
   pub taken : List ℕ
   pub takes : Takes left left' taken
-  pub few : length taken ≤ INPUT_LIMIT + 1
-  pub full : filled ≡ filleds.Full → length taken ≡ INPUT_LIMIT + 1
+  pub few : length taken ≤ input_limit + 1
+  pub full : filled ≡ filleds.Full → length taken ≡ input_limit + 1
   pub nothing_left : filled ≡ filleds.End → IfSome left' (λ rest. rest ≡ [])
   pub replays : ReplaysText allows taken filled before after status
 

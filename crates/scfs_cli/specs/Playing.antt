@@ -1,12 +1,12 @@
 -- What is played of a text: its events up to the first item that the program can't do yet, and no more than the limit.
 use Rattle.std.specs.Prelude.{ℕ, ◌+◌, List, [], ◌∷◌, length, Option, Some, None, ◌==◌, if◌then◌else◌}
+use Rattle.scfs_base.specs.Limits.{events_limit}
 use Rattle.scfs_schedule.specs.declared.types.Header.{Header}
 use Rattle.scfs_schedule.specs.declared.types.Event.{Event}
 use Rattle.scfs_schedule.specs.declared.types.Ending.{Ending}
 use Rattle.scfs_schedule.specs.Reading.{Read}
 use Rattle.scfs_cli.specs.declared.closing.Finish.{Finish}
 use Rattle.scfs_cli.specs.declared.closing.Finish.TheVariants as finishes
-use Rattle.scfs_cli.specs.declared.limits.TheConstants.{EVENTS_LIMIT}
 use Rattle.scfs_model.specs.Built.{is_built_header, is_built}
 
 -- the header and the events that are played, and how that ends
@@ -30,7 +30,7 @@ finished finish = record { header = None; events = []; finish = finish }
 -- whether what is played ends before an event, behind so many others; it stands in the line of this number
 abbrev pub finish_at : (line count : ℕ) → Event → Option Finish
 finish_at line count event =
-    if is_built event then (if count == EVENTS_LIMIT then Some finishes.Events else None) else Some (finishes.Unbuilt line)
+    if is_built event then (if count == events_limit then Some finishes.Events else None) else Some (finishes.Unbuilt line)
 
 -- an event before what follows, unless it ends what is played
 abbrev pub unless_finished : Option Finish → Event → Playing → Playing

@@ -2,6 +2,7 @@
 
 ghost use Rattle.std.specs.Prelude.{◌≡◌, ◌≢◌, true};
 ghost use Rattle.std.specs.List.{list_all};
+ghost use Rattle.scfs_base.specs.Limits.{events_limit};
 ghost use Rattle.scfs_model.specs.Built.{is_blocking, is_built, is_built_call, is_built_header};
 ghost use Rattle.scfs_cli.specs.Playing.{finish_at};
 
@@ -63,7 +64,7 @@ fn is_built(event: &Event) -> bool
 pub fn finish_at(line: u64, count: u64, event: &Event) -> Option<Finish>
     ensures finish { result ≡ finish_at line count event.now }
     ensures built { result ≡ None → is_built event.now ≡ true }
-    ensures room { result ≡ None → count ≢ EVENTS_LIMIT }
+    ensures room { result ≡ None → count ≢ events_limit }
 {
     if !is_built(event) {
         Some(Finish::Unbuilt(line))

@@ -1,5 +1,6 @@
 ghost use Rattle.std.specs.Prelude.{◌≡◌, ◌+◌, ◌<◌, ◌≤◌, List, ℕ, [], ◌∷◌, IfOk, OnOk, true, Some, None};
 ghost use Rattle.std.specs.List.{flat_map};
+ghost use Rattle.scfs_base.specs.Limits.{events_limit};
 ghost use Rattle.scfs_base.specs.Outside.{Puts, Rose};
 ghost use Rattle.scfs_cli.specs.Edges.{GetsPart};
 ghost use Rattle.scfs_policy.specs.Rank.{IsRankRule};
@@ -17,7 +18,6 @@ ghost use Rattle.scfs_cli.specs.Playing.{events_played, finish_at, played};
 ghost use Rattle.scfs_cli.specs.declared.closing.Finish.{Finish};
 ghost use Rattle.scfs_cli.specs.Plays.{Begins, GoesOn, Plays, PlaysEvents, Turns};
 
-use crate::EVENTS_LIMIT;
 use crate::built::{finish_at, is_built_header};
 use crate::closing::Finish;
 use crate::edges::write_all;
@@ -68,7 +68,7 @@ fn take_turn<O: Sink, R: Fn(RankFacts) -> u64>(
     requires world { IsWorld world }
     requires event { IsEvent world.header event.now }
     requires built { is_built event.now ≡ true }
-    requires room { world.events < EVENTS_LIMIT }
+    requires room { world.events < events_limit }
     requires rank { IsRankRule (R.pre rank.now) }
     ensures turns { (header : Header) (past : History) → Stands world header past → IsPlayed (R.post rank.now) header past →
         Turns (R.post rank.now) header past event.now (O.written out.old) (O.written out.new) result }
@@ -120,14 +120,14 @@ fn play_event<O: Sink, R: Fn(RankFacts) -> u64>(
 ) -> Turn
     requires world { IsWorld world }
     requires event { IsEvent world.header event }
-    requires room { world.events ≤ EVENTS_LIMIT }
+    requires room { world.events ≤ events_limit }
     requires rank { IsRankRule (R.pre rank.now) }
     ensures turns { (header : Header) (past : History) → Stands world header past → IsPlayed (R.post rank.now) header past →
         Turns (R.post rank.now) header past event (O.written out.old) (O.written out.new) result }
     ensures finish { (finish : Finish) → result ≡ Turn.Finished finish →
         (finish_at line world.events event ≡ Some finish) × (O.written out.new ≡ O.written out.old) }
     ensures done { (next : WorldState) → result ≡ Turn.Done next →
-        (finish_at line world.events event ≡ None) × (next.header ≡ world.header) × (next.events ≡ world.events + 1) × (next.events ≤ EVENTS_LIMIT) }
+        (finish_at line world.events event ≡ None) × (next.header ≡ world.header) × (next.events ≡ world.events + 1) × (next.events ≤ events_limit) }
     ensures world { (next : WorldState) → result ≡ Turn.Done next → IsWorld next }
     ensures too_large { result ≡ Turn.TooLarge → finish_at line world.events event ≡ None }
     ensures begun { result ≡ Turn.WriteFault → finish_at line world.events event ≡ None }

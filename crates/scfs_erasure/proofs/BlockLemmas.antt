@@ -53,7 +53,7 @@ All-bytes_of P blocks h i d l =
     let within : i < length blocks = omega (arith, length-bytes_of blocks) in
     subst P (sym (get_or-bytes_of blocks i no_block d within)) (h i no_block within)
 
-AreBytes-numbers_of : (f size : ℕ) (blocks : List Block) → 3 * f + 1 ≤ 256 → AreEnough f size blocks
+pub AreBytes-numbers_of : (f size : ℕ) (blocks : List Block) → 3 * f + 1 ≤ 256 → AreEnough f size blocks
     → AreBytes (numbers_of blocks)
 AreBytes-numbers_of f size blocks few enough i d l =
     let within : i < length blocks = omega (arith, length-numbers_of blocks) in

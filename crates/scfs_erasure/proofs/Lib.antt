@@ -2,3 +2,4 @@ pub mod RowLemmas
 pub mod BlockLemmas
 pub mod ContentLemmas
 pub mod LastBlocks
+pub mod RowsBehind

@@ -1,14 +1,14 @@
 -- Rows from other rows, through the polynomials of their columns.
-use Rattle.std.proofs.Common.{◌≡◌, ℕ, zero, suc, ◌<◌, ◌≤◌, List, [], ◌∷◌, length, map, get_or, set, take, replicate}
+use Rattle.std.proofs.Common.{◌≡◌, ℕ, ◌<◌, ◌≤◌, List, [], ◌∷◌, length, map, get_or, replicate}
 use Rattle.std.proofs.Common.{sym, ap, ◌∙◌, arith}
 use Rattle.std.specs.Prelude.{slice_index}
 use Rattle.std.specs.List.{All}
-use Rattle.std.proofs.lemmas.List.{ext_get_or, get_or-map, length-map, length-replicate, take-replicate}
+use Rattle.std.proofs.lemmas.List.{ext_get_or, get_or-map, length-map, length-replicate}
 use Rattle.std.proofs.lemmas.List.FromFn.{length-map-range_with_len}
 use Rattle.std.proofs.lemmas.List.FromFn.{get_or-map-range_with_len}
 use Rattle.scfs_gf256.specs.Rows.{add_multiples, column_of}
 use Rattle.scfs_gf256.specs.Polynomials.{value_of, AreBytes, AreDistinct}
-use Rattle.scfs_gf256.specs.Interpolation.{coefficients_of, lagrange_factors, unit_values}
+use Rattle.scfs_gf256.specs.Interpolation.{coefficients_of, lagrange_factors}
 use Rattle.scfs_gf256.proofs.Bytes.{Bytes-AreBytes}
 use Rattle.scfs_gf256.proofs.Values.{value_of-lt}
 use Rattle.scfs_gf256.proofs.Lagrange.{length-lagrange_sum, Bytes-lagrange_sum}
@@ -134,10 +134,3 @@ row_at-interpolated places rows size x same long =
     (length-add_multiples (replicate size 0) (lagrange_factors places x) rows (λ i d l. long i d l ∙ sym (length-replicate size 0))
     ∙ length-replicate size 0)
     (λ k inside. slice_index-interpolated_rows places rows size x k same long)
-
--- a front of longer unit values is unit values
-pub unit_values-taken : (n m i : ℕ) → n ≤ m → i < n → take n (set (replicate m 0) i 1) ≡ unit_values n i
-unit_values-taken zero m i le l = absurd (omega arith)
-unit_values-taken (suc n) zero i le l = absurd (omega arith)
-unit_values-taken (suc n) (suc m) zero le l = ap (λ xs. 1 ∷ xs) (take-replicate n m 0 (omega arith))
-unit_values-taken (suc n) (suc m) (suc i) le l = ap (λ xs. 0 ∷ xs) (unit_values-taken n m i (omega arith) (omega arith))

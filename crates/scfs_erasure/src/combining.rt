@@ -1,8 +1,8 @@
 //! Rows from other rows: the values elsewhere of the polynomials through given blocks.
 
-ghost use Rattle.std.specs.Prelude.{◌≡◌, ◌<◌, ◌≤◌, length, slice_index, IfOk};
+ghost use Rattle.std.specs.Prelude.{◌≡◌, ℕ, ◌+◌, ◌^◌, ◌<◌, ◌≤◌, ◌++◌, [], length, slice_index, slice_index_or, IfOk, OnOk, IfSome};
 ghost use Rattle.std.specs.List.{All};
-ghost use Rattle.scfs_gf256.specs.Rows.{row_sum, scaled};
+ghost use Rattle.scfs_gf256.specs.Rows.{add_multiples};
 ghost use Rattle.scfs_gf256.specs.Polynomials.{AreBytes, AreDistinct};
 ghost use Rattle.scfs_gf256.specs.Interpolation.{lagrange_factors};
 ghost use Rattle.scfs_erasure.specs.Rows.{row_at};
@@ -10,32 +10,83 @@ ghost use Rattle.scfs_erasure.specs.Blocks.{numbers_of, bytes_of};
 
 use crate::block::Block;
 use scfs_base::Memory;
-use scfs_gf256::{interpolate_at, mul_row};
+use scfs_gf256::{factor_at, mul_row};
 use std::alloc::Global;
 
-/// The greatest number of rows: f+1 for the greatest f.
-const MOST_ROWS: usize = 4;
-
-/// The row of `size` bytes that the polynomials through the given blocks have at the place `number`.
-pub fn combined_row(
+/// Puts behind the bytes the row of `size` bytes that the polynomials through the given blocks have at the place `number`.
+/// The row of a given block is copied; any other is computed.
+pub fn push_row(
     alloc: Global,
     blocks: &[Block],
     size: usize,
     number: u8,
-) -> Result<Vec<u8>, Memory>
-    requires some { 0 < length blocks.now }
-    requires few { length blocks.now ≤ MOST_ROWS }
+    bytes: &mut Vec<u8>,
+) -> Result<(), Memory>
+    requires places { AreBytes (numbers_of blocks.now) }
     requires different { AreDistinct (numbers_of blocks.now) }
     requires long { All (λ block. length block.bytes ≡ size) blocks.now }
-    ensures bytes { IfOk result (λ row. All (λ block. AreBytes block.bytes) blocks.now) }
-    ensures row { IfOk result (λ row. row.items ≡ row_at (numbers_of blocks.now) (bytes_of blocks.now) size number) }
+    requires room { length bytes.old.items + size < 2 ^ 64 }
+    ensures bytes { OnOk result (All (λ block. AreBytes block.bytes) blocks.now) }
+    ensures row { OnOk result (bytes.new.items
+        ≡ bytes.old.items ++ row_at (numbers_of blocks.now) (bytes_of blocks.now) size number) }
+{
+    are_bytes(blocks);
+    match given(blocks, number) {
+        Some(row) => bytes.extend_from_slice(row)?,
+        None => push_computed(alloc, blocks, size, number, bytes)?,
+    }
+    Ok(())
+}
+
+/// The blocks hold bytes: a fact for the proofs. It does nothing.
+fn are_bytes(blocks: &[Block])
+    ensures { All (λ block. AreBytes block.bytes) blocks.now }
+{
+    for place in 0..blocks.len() {
+        is_row(blocks[place].bytes.as_slice());
+    }
+}
+
+/// The same of one row.
+fn is_row(row: &[u8])
+    ensures { AreBytes row.now }
+{
+    let _length = row.len();
+}
+
+/// The bytes of the block of this number, if it is given.
+fn given(blocks: &[Block], number: u8) -> Option<&[u8]>
+    ensures { IfSome result (λ row. (place : ℕ) × (place < length blocks.now)
+        × (slice_index (numbers_of blocks.now) place ≡ number)
+        × (row.now ≡ slice_index_or (bytes_of blocks.now) place [])) }
+{
+    for place in 0..blocks.len() {
+        if blocks[place].number == number {
+            return Some(blocks[place].bytes.as_slice());
+        }
+    }
+    None
+}
+
+/// Puts that row behind the bytes, added up from those of all blocks.
+fn push_computed(
+    alloc: Global,
+    blocks: &[Block],
+    size: usize,
+    number: u8,
+    bytes: &mut Vec<u8>,
+) -> Result<(), Memory>
+    requires different { AreDistinct (numbers_of blocks.now) }
+    requires long { All (λ block. length block.bytes ≡ size) blocks.now }
+    requires room { length bytes.old.items + size < 2 ^ 64 }
+    ensures { OnOk result (bytes.new.items
+        ≡ bytes.old.items ++ row_at (numbers_of blocks.now) (bytes_of blocks.now) size number) }
 {
     let numbers = numbers_in(alloc, blocks)?;
-    let mut row = vec![in alloc; 0; size]?;
-    for (place, block) in blocks.iter().enumerate() {
-        add_row(&numbers, place, number, block.bytes.as_slice(), &mut row);
-    }
-    Ok(row)
+    let start = bytes.len();
+    bytes.resize(start + size, 0)?;
+    add_rows(&numbers, number, blocks, &mut bytes[start..]);
+    Ok(())
 }
 
 /// The numbers of the blocks.
@@ -46,26 +97,15 @@ fn numbers_in(alloc: Global, blocks: &[Block]) -> Result<Vec<u8>, Memory>
     Ok(numbers)
 }
 
-/// Adds to the row at `x` what the row at `places[index]` counts for it.
-fn add_row(places: &[u8], index: usize, x: u8, row: &[u8], into: &mut [u8])
-    requires inside { index < length places.now }
-    requires few { length places.now ≤ MOST_ROWS }
+/// Adds to the row at `x` what the rows of the blocks at these places count for it.
+fn add_rows(places: &[u8], x: u8, blocks: &[Block], into: &mut [u8])
+    requires places { places.now ≡ numbers_of blocks.now }
     requires different { AreDistinct places.now }
-    requires same_length { length row.now ≡ length into.old }
-    ensures bytes { AreBytes row.now }
-    ensures sum { into.new ≡ row_sum into.old (scaled (slice_index (lagrange_factors places.now x) index) row.now) }
+    requires long { All (λ block. length block.bytes ≡ length into.old) blocks.now }
+    ensures { into.new ≡ add_multiples into.old (lagrange_factors places.now x) (bytes_of blocks.now) }
 {
-    mul_row(factor_at(places, index, x), row, into);
-}
-
-/// The factor with which a row at `places[index]` counts for the row at `x`.
-fn factor_at(places: &[u8], index: usize, x: u8) -> u8
-    requires inside { index < length places.now }
-    requires few { length places.now ≤ MOST_ROWS }
-    requires different { AreDistinct places.now }
-    ensures { result ≡ slice_index (lagrange_factors places.now x) index }
-{
-    let mut values = [0; MOST_ROWS];
-    values[index] = 1;
-    interpolate_at(places, &values[..places.len()], x)
+    for place in 0..blocks.len() {
+        let factor = factor_at(places, place, x);
+        mul_row(factor, blocks[place].bytes.as_slice(), into);
+    }
 }

@@ -5,7 +5,7 @@ ghost use Rattle.scfs_erasure.specs.Rows.{row_length, piece_of_rows};
 ghost use Rattle.scfs_erasure.specs.Blocks.{size_of, AreEnough, AreOnlyRows, rows_from, contents_from};
 
 use crate::block::{Block, block_length};
-use crate::combining::combined_row;
+use crate::combining::push_row;
 use scfs_base::{Bytes, Memory};
 use std::alloc::Global;
 
@@ -19,13 +19,12 @@ pub fn decode(alloc: Global, f: u8, length: u32, blocks: &[Block]) -> Result<Byt
     ensures contents { IfOk result (λ contents. contents ≡ contents_from f length blocks.now) }
 {
     let size = block_length(f, length) as usize;
-    let mut contents = Bytes::new(alloc);
+    let mut contents = Vec::with_capacity(alloc, size * (usize::from(f) + 1))?;
     for number in 0..f + 1 {
-        let row = combined_row(alloc, blocks, size, number)?;
-        contents.extend(&row)?;
+        push_row(alloc, blocks, size, number, &mut contents)?;
     }
     contents.truncate(length as usize);
-    Ok(contents)
+    Ok(Bytes::from_vec(contents))
 }
 
 /// The block `number` of the contents of which f+1 blocks are given: the piece of that number of the only rows of which
@@ -39,7 +38,9 @@ pub fn block_from(alloc: Global, f: u8, blocks: &[Block], number: u8) -> Result<
     ensures bytes { IfOk result (λ block.
         block.bytes ≡ piece_of_rows f (size_of blocks.now) (rows_from f (size_of blocks.now) blocks.now) number) }
 {
-    let row = combined_row(alloc, blocks, blocks[0].bytes.len(), number)?;
-    let bytes = Bytes::from_slice(alloc, &row)?;
+    let size = blocks[0].bytes.len();
+    let mut row = Vec::with_capacity(alloc, size)?;
+    push_row(alloc, blocks, size, number, &mut row)?;
+    let bytes = Bytes::from_vec(row);
     Ok(Block { number, bytes })
 }

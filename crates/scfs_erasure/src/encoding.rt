@@ -47,9 +47,8 @@ fn filled_row(alloc: Global, bytes: &[u8], size: usize) -> Result<Bytes, Memory>
     requires { length bytes.now ≤ size }
     ensures { IfOk result (λ row. row ≡ bytes.now ++ replicate (size - length bytes.now) 0) }
 {
-    let mut row = Bytes::from_slice(alloc, bytes)?;
-    for _place in bytes.len()..size {
-        row.push(0)?;
-    }
-    Ok(row)
+    let mut row = Vec::with_capacity(alloc, size)?;
+    row.extend_from_slice(bytes)?;
+    row.resize(size, 0)?;
+    Ok(Bytes::from_vec(row))
 }

@@ -6,6 +6,8 @@ pub mod Bytes
 pub mod Values
 pub mod Division
 pub mod Lagrange
+pub mod LaneLemmas
 pub mod Fitting
 pub mod RowLaws
 pub mod Steps
+pub mod BlockLemmas

@@ -108,14 +108,20 @@ times-halves f b l =
     ∙ sym (times-right f (b % 16) (times 16 (b / 16)))
     ∙ ap (times f) (eqb-true (bit_xor (b % 16) (times 16 (b / 16))) b (all_below-at 256 halves_at halves_check b l))
 
+-- the same from a table of the products of each half
+pub halves_found : (low high : List ℕ) (f sixteen b : ℕ) → b < 256 → sixteen ≡ times f 16
+    → ((k : ℕ) → k < 16 → get_or low k 0 ≡ times f k) → ((k : ℕ) → k < 16 → get_or high k 0 ≡ times sixteen k)
+    → bit_xor (get_or low (b % 16) 0) (get_or high (b / 16) 0) ≡ times f b
+halves_found low high f sixteen b l e lows highs =
+    let lower : b % 16 < 16 = omega arith in
+    let upper : b / 16 < 16 = omega arith in
+    ap₂ bit_xor (lows (b % 16) lower) (highs (b / 16) upper ∙ ap (λ s. times s (b / 16)) e) ∙ times-halves f b l
+
 pub halves_looked_up : (low high : List ℕ) (f sixteen b : ℕ) → b < 256 → sixteen ≡ times f 16
     → ((k : ℕ) → k < 16 → get_or low k 0 ≡ times f k) → ((k : ℕ) → k < 16 → get_or high k 0 ≡ times sixteen k)
     → bit_xor (get_or low (bit_and b 15) 0) (get_or high (b / 16) 0) ≡ times f b
 halves_looked_up low high f sixteen b l e lows highs =
-    let lower : b % 16 < 16 = omega arith in
-    let upper : b / 16 < 16 = omega arith in
-    ap₂ bit_xor (ap (λ k. get_or low k 0) (and_mask b 4) ∙ lows (b % 16) lower) (highs (b / 16) upper ∙ ap (λ s. times s (b / 16)) e)
-    ∙ times-halves f b l
+    ap (λ j. bit_xor (get_or low j 0) (get_or high (b / 16) 0)) (and_mask b 4) ∙ halves_found low high f sixteen b l e lows highs
 
 -- ---- the product of x - root
 

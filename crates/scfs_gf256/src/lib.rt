@@ -6,6 +6,7 @@
 #![tactic(auto)]
 
 mod field;
+mod lanes;
 mod laws;
 mod polynomials;
 mod rows;
@@ -14,5 +15,5 @@ mod tests;
 
 pub use field::{add, inv, mul};
 pub use laws::{interpolation_laws, product_laws, row_laws, sum_laws, value_laws};
-pub use polynomials::{interpolate_at, value_at};
+pub use polynomials::{factor_at, interpolate_at, value_at};
 pub use rows::mul_row;

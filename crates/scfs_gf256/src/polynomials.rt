@@ -30,8 +30,9 @@ pub fn interpolate_at(xs: &[u8], ys: &[u8], x: u8) -> u8
     value
 }
 
-/// The factor with which the value at `xs[place]` counts for the value at `x`.
-fn factor_at(xs: &[u8], place: usize, x: u8) -> u8
+/// The factor with which the value at `xs[place]` counts for the value at `x`: the sum of the values, each times its
+/// factor, is what interpolation gives. The places differ.
+pub fn factor_at(xs: &[u8], place: usize, x: u8) -> u8
     requires inside { place < length xs.now }
     requires distinct { AreDistinct xs.now }
     ensures { result ≡ slice_index (lagrange_factors xs.now x) place }

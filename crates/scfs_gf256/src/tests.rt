@@ -22,6 +22,22 @@ fn known_row(rt: HostRuntime) {
     assert_eq!(rt; row, [0xc1, 0xfe, 0x57]);
 }
 
+// Bytes in blocks of 32 and the rest after them are multiplied alike.
+#[test]
+fn known_long_row(rt: HostRuntime) {
+    let mut row = [0x57; 71];
+    mul_row(0x57, &[0x83; 71], &mut row);
+    assert_eq!(rt; row, [0x96; 71]);
+}
+
+// A block of 32 bytes and one byte after it.
+#[test]
+fn known_row_past_a_block(rt: HostRuntime) {
+    let mut row = [0; 33];
+    mul_row(0x57, &[0x13; 33], &mut row);
+    assert_eq!(rt; row, [0xfe; 33]);
+}
+
 // The column 01, 00, 03 of the places 0, 1 and 2 goes on with 02, 05, 04 and 07, and the last three give it back.
 #[test]
 fn known_points(rt: HostRuntime) {

@@ -1,5 +1,5 @@
 -- Lists, and what may be refused, through a function.
-use Rattle.std.proofs.Common.{◌≡◌, ℕ, zero, suc, List, [], ◌∷◌, ◌++◌, length, map, Bool, true, false, Option, Some, None, refl, ap, ◌∙◌}
+use Rattle.std.proofs.Common.{◌≡◌, ℕ, zero, suc, List, [], ◌∷◌, ◌++◌, length, map, Bool, true, false, Option, Some, refl, ap, ◌∙◌}
 use Rattle.std.specs.Prelude.{◌||◌, if◌then◌else◌, find, slice_get, slice_set, replicate, Ok, Err}
 use Rattle.std.specs.List.{list_any}
 use Rattle.scfs_machine.specs.Lists.{without_first, moved_back}

@@ -10,7 +10,7 @@ use Rattle.scfs_machine.specs.Given.{Given}
 use Rattle.scfs_machine.specs.Agents.{Waiting, For_step, For_clouds, For_close, Upload, Closed, Agent, Input, Calls, Tells, Hears, Turns, Reaction}
 use Rattle.scfs_machine.specs.Opens.{open_hears, open_turns}
 use Rattle.scfs_machine.specs.Closes.{upload_hears, upload_turns}
-use Rattle.scfs_machine.specs.Reactions.{idle, to_open, to_closed, to_upload, to_work, hears, turns, responded, begun, next_begun, reacted}
+use Rattle.scfs_machine.specs.Reactions.{idle, to_open, to_closed, to_upload, hears, turns, responded, begun, next_begun, reacted}
 use Rattle.scfs_machine.specs.Mapped as to
 use Rattle.scfs_machine.specs.Mapped.{Own, through}
 use Rattle.scfs_machine.specs.Sound.{FitsHeard}

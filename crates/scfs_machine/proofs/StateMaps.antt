@@ -1,7 +1,6 @@
 -- What an event does, where a version is something else.
 use Rattle.std.proofs.Common.{◌≡◌, ℕ, List, [], ◌∷◌, ◌++◌, map, Option, Some, None, refl, ap, subst, ◌∙◌}
-use Rattle.std.specs.Prelude.{slice_get, slice_set}
-use Rattle.scfs_base.specs.declared.naming.RequestNo.{RequestNo}
+use Rattle.std.specs.Prelude.{slice_get}
 use Rattle.scfs_base.specs.declared.naming.UploadNo.{UploadNo}
 use Rattle.scfs_schedule.specs.declared.types.Event.{Event}
 use Rattle.scfs_schedule.specs.declared.types.Line.{Line}
@@ -17,7 +16,7 @@ use Rattle.scfs_machine.specs.Steps.{Served, served, served_line}
 use Rattle.scfs_machine.specs.Sayings.{said_by}
 use Rattle.scfs_machine.specs.Agents.{Request, Input, Calls, Tells, Hears, Turns, Sent, Reaction}
 use Rattle.scfs_machine.specs.Reactions.{reacted}
-use Rattle.scfs_machine.specs.Events.{At_agent, Call_comes, Turn_comes, At_space, Step_served, Step_postponed, Reply_told, At_cloud, Request_answered, Answer_given, Message_moved, Place, Agent_has, Space_has, Cloud_has, Nowhere, place_of}
+use Rattle.scfs_machine.specs.Events.{At_agent, Call_comes, Turn_comes, At_space, Step_served, Step_postponed, Reply_told, Request_answered, Answer_given, Message_moved, Place, Agent_has, Space_has, Cloud_has, Nowhere, place_of}
 use Rattle.scfs_machine.specs.States.{Reply, Seat, State, Effect, request_line, sum_of, leaving, with_seat, at_seat, postpones, moves, did, comes, serves, tells, answers_by, gives, at_agent, at_space, at_place, effect}
 use Rattle.scfs_machine.specs.Mapped as to
 use Rattle.scfs_machine.specs.Mapped.{Own, through}

@@ -5,13 +5,13 @@ use Rattle.scfs_schedule.specs.declared.types.Refusal.{Refusal}
 use Rattle.scfs_schedule.specs.declared.types.Refusal.TheVariants as refusals
 use Rattle.scfs_session.specs.declared.sessions.Session.{Session}
 use Rattle.scfs_session.specs.Open.{session_of, ended, read_answer, after_write, after_truncate, sessions_after}
-use Rattle.scfs_machine.specs.Limits.{handles_limit}
+use Rattle.scfs_base.specs.Limits.{handles_limit}
 use Rattle.scfs_machine.specs.Lists.{if_some}
 use Rattle.scfs_machine.specs.Names.{file_id}
 use Rattle.scfs_machine.specs.Paths.{names_of}
 use Rattle.scfs_machine.specs.Format.{Setup}
 use Rattle.scfs_machine.specs.Walks.{OrRefusal}
-use Rattle.scfs_machine.specs.NameSteps.{Name_step, Make, Look}
+use Rattle.scfs_machine.specs.NameSteps.{Make, Look}
 use Rattle.scfs_machine.specs.SessionSteps.{Session_step, Open_read, Open_write}
 use Rattle.scfs_machine.specs.Steps.{Step, On_names, On_sessions}
 use Rattle.scfs_machine.specs.Sayings as says

@@ -8,7 +8,7 @@ use Rattle.scfs_net.specs.declared.messages.Did.{Did}
 use Rattle.scfs_net.specs.Queues.{NetState, new_net, cloud_at, at_cloud, net_asked, net_answered, net_did, net_repeated, net_doubled, serving, hiding, always, lost, taken, deferred, swapped}
 use Rattle.scfs_machine.specs.Lists.{first_of}
 use Rattle.scfs_machine.specs.Format.{Setup}
-use Rattle.scfs_machine.specs.History.{Message, Of_request, Of_answer, Entry, History}
+use Rattle.scfs_machine.specs.History.{Message, Of_request, Of_answer, History}
 use Rattle.scfs_machine.specs.Agents.{Sent}
 use Rattle.scfs_machine.specs.Layers.{rows}
 use Rattle.scfs_machine.specs.Runs.{effect_after}

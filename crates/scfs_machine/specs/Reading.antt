@@ -8,7 +8,7 @@ use Rattle.scfs_unit.specs.declared.pieces.KeptPiece.{KeptPiece}
 use Rattle.scfs_machine.specs.Format.{Setup}
 use Rattle.scfs_machine.specs.Asked.{Asked, is_answer_to}
 use Rattle.scfs_machine.specs.Next.{Next, Goes_on, Asks, Has, Gives_up}
-use Rattle.scfs_machine.specs.Limits.{turns_limit}
+use Rattle.scfs_base.specs.Limits.{turns_limit}
 
 -- how far the reading of objects of this name from the clouds is, of contents of this root and size: the order of the clouds, and
 -- since it began its Gets, the good pieces in the order in which they came, at most one a cloud, and how many turns came

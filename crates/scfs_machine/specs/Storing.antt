@@ -1,16 +1,16 @@
-use Rattle.std.specs.Prelude.{ℕ, ◌+◌, List, [], ◌∷◌, ◌++◌, length, filter, Bool, true, false, ◌&&◌, not, ◌==◌, nat_le, if◌then◌else◌}
+use Rattle.std.specs.Prelude.{ℕ, ◌+◌, List, length, filter, Bool, true, false, ◌&&◌, not, ◌==◌, nat_le, if◌then◌else◌}
 use Rattle.scfs_base.specs.declared.naming.RequestNo.{RequestNo}
 use Rattle.scfs_base.specs.declared.cloud.CloudAnswer.{CloudAnswer}
 use Rattle.scfs_base.specs.declared.cloud.CloudAnswer.TheVariants as answers
 use Rattle.scfs_unit.specs.declared.sealing.Sealed.{Sealed}
-use Rattle.scfs_machine.specs.Lists.{is_in, below}
+use Rattle.scfs_machine.specs.Lists.{is_in, below, put_by_number}
 use Rattle.scfs_machine.specs.Format.{Setup, clouds_of, enough}
 use Rattle.scfs_machine.specs.Asked.{Asked, is_answer_to}
 use Rattle.scfs_machine.specs.Next.{Next, Goes_on, Asks, Has, Gives_up}
-use Rattle.scfs_machine.specs.Limits.{turns_limit}
+use Rattle.scfs_base.specs.Limits.{turns_limit}
 
--- how far the objects of a sealed unit, one a cloud, are stored under a name: their Puts so far, the clouds that acknowledged one,
--- each once, and how many turns came since it began
+-- how far the objects of a sealed unit, one a cloud, are stored under a name: their Puts so far, the clouds that acknowledged one by
+-- number, and how many turns came since it began
 pub record Storing : Type 0 where
   pub name : List ℕ
   pub unit : Sealed
@@ -31,7 +31,7 @@ is_new_ack g c request answer = is_ack answer && is_answer_to g.puts c request &
 
 -- after an answer that counts
 abbrev pub with_ack : Storing → (c : ℕ) → Storing
-with_ack g c = record g { acked = g.acked ++ c ∷ [] }
+with_ack g c = record g { acked = put_by_number c g.acked }
 
 -- all clouds but f are enough
 abbrev pub is_enough : Setup → Storing → Bool

@@ -1,5 +1,6 @@
 ghost use Rattle.std.specs.Prelude.{◌≡◌, ◌≢◌, ◌+◌, ◌<◌, ◌≤◌, ◌↔◌, [], length, slice_get, IfOk, IsTrue, MatchResult};
 ghost use Rattle.std.specs.Option.{option_copied, option_map};
+ghost use Rattle.scfs_base.specs.Limits.{carried_limit};
 ghost use Rattle.scfs_net.specs.Queues.{new_net, cloud_at, at_cloud, net_asked, net_answered, net_repeated, net_doubled, LeadsTo, always, serving, hiding, net_did, lost, taken, deferred, swapped, moved};
 
 use crate::cloud::Cloud;
@@ -24,18 +25,18 @@ impl Model for Net {
     ghost Value = { NetState };
 
     ghost use Rattle.std.specs.Prelude.{◌≤◌};
-    ghost use Rattle.scfs_net.specs.declared.messages.TheConstants.{CARRIED_LIMIT};
+    ghost use Rattle.scfs_base.specs.Limits.{carried_limit};
 
     ghost view = { λ net. record { clouds = net.clouds.items; carried = net.carried } };
 
-    ghost invariant = { λ net. net.carried ≤ CARRIED_LIMIT };
+    ghost invariant = { λ net. net.carried ≤ carried_limit };
 }
 
 /// The carried bytes after so many more, unless they pass the limit.
 fn carried_after(carried: u64, weight: u64) -> Result<u64, NetFault>
     ensures { MatchResult result
-        (λ total. (total ≡ carried + weight) × (total ≤ CARRIED_LIMIT))
-        (λ fault. (fault ≡ NetFault.TooLarge) × (CARRIED_LIMIT < carried + weight)) }
+        (λ total. (total ≡ carried + weight) × (total ≤ carried_limit))
+        (λ fault. (fault ≡ NetFault.TooLarge) × (carried_limit < carried + weight)) }
 {
     let total = carried.saturating_add(weight);
     if total > CARRIED_LIMIT {

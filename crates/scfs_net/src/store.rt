@@ -1,4 +1,5 @@
 ghost use Rattle.std.specs.Prelude.{◌≡◌, [], length, IfOk, OnOk};
+ghost use Rattle.scfs_base.specs.Limits.{names_limit};
 ghost use Rattle.scfs_net.specs.Queues.{first_bytes, answer_of, objects_after};
 ghost use Rattle.scfs_net.specs.Store.{stored, with_object, without_object, names_with, last_of};
 
@@ -89,7 +90,7 @@ impl Store {
 
     /// The answer to a List: the names that begin with the prefix, the greatest where there are too many.
     fn list(&self, alloc: Global, prefix: &[u8]) -> Result<NameList, Memory>
-        ensures { IfOk result (λ names. names ≡ last_of NAMES_LIMIT (names_with self.now prefix.now)) }
+        ensures { IfOk result (λ names. names ≡ last_of names_limit (names_with self.now prefix.now)) }
     {
         let mut spare = self.count(prefix).saturating_sub(NAMES_LIMIT);
         let mut names = NameList::new(alloc);

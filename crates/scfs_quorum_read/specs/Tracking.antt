@@ -1,5 +1,7 @@
 -- What a tracker stands for.
-use Rattle.std.specs.Prelude.{◌≡◌, ℕ, ◌+◌, ◌-◌, ◌*◌, ◌<◌, ◌≤◌, List, length, ◌==◌, if◌then◌else◌, Option, Some, None}
+use Rattle.std.specs.Prelude.{◌≡◌, ℕ, ◌+◌, ◌-◌, ◌*◌, ◌<◌, ◌≤◌, List, [], ◌∷◌, ◌++◌, length, take, ◌==◌, nat_lt, if◌then◌else◌, Option, Some, None, option_map}
+use Rattle.std.specs.Option.{option_to_list}
+use Rattle.scfs_base.specs.declared.cloud.CloudAnswer.{CloudAnswer}
 use Rattle.std.specs.List.{All}
 use Rattle.scfs_gf256.specs.Polynomials.{AreDistinct}
 use Rattle.scfs_unit.specs.declared.pieces.KeptPiece.{KeptPiece}
@@ -7,7 +9,14 @@ use Rattle.scfs_unit.specs.Checking.{IsPiece}
 use Rattle.scfs_unit.specs.Unsealing.{clouds_of, unseal}
 use Rattle.scfs_quorum_read.specs.declared.steps.ReadStep.{ReadStep}
 use Rattle.scfs_quorum_read.specs.declared.steps.ReadStep.TheVariants.{Ask, Wait, Whole}
-use Rattle.scfs_quorum_read.specs.Reading.{Reading, Told, good_pieces, asked, turned}
+use Rattle.scfs_quorum_read.specs.declared.steps.TurnStep.{TurnStep}
+use Rattle.scfs_quorum_read.specs.declared.steps.TurnStep.TheVariants.{Again, Spent}
+use Rattle.scfs_quorum_read.specs.Reading.{Reading, Told, good_piece, good_pieces, is_among, first_unasked, asking, asked, turned}
+
+-- the step of a turn when so many are left, and so many clouds are good
+abbrev pub ends_at : Option ℕ → ℕ → TurnStep
+ends_at None good = Again
+ends_at (Some left) good = if nat_lt 1 left then Again else Spent good
 
 -- a tracker: what is read, the clouds that were asked, the first good piece of each cloud, and the turns that are left
 pub record Tracker : Type 0 where
@@ -27,9 +36,46 @@ pub record StandsFor (tracker : Tracker) (past : List Told) : Type 0 where
   pub pieces : tracker.pieces ≡ good_pieces tracker.reading past
   pub left : tracker.left ≡ left_after tracker.reading.turns (turned past)
 
+-- at first the first f + 1 clouds are asked
+abbrev pub begun : Reading → Tracker
+begun reading = record { reading = reading; asked = take (reading.f + 1) reading.order; pieces = []; left = reading.turns }
+
 -- what keeping a piece brings: the contents, if there are f+1 pieces now
 abbrev pub kept_step : ℕ → List KeptPiece → ReadStep
 kept_step f pieces = if length pieces == f + 1 then Whole (unseal f pieces) else Wait
+
+-- what something told comes to: the tracker afterwards, and what is to be done
+pub record Heard : Type 0 where
+  pub after : Tracker
+  pub step : ReadStep
+
+-- a bad answer: the next cloud of the order is asked, if there is one
+abbrev pub bad_heard : Tracker → Heard
+bad_heard t =
+    let next = first_unasked t.reading.order t.asked in
+    record { after = record t { asked = t.asked ++ option_to_list next }; step = asking next }
+
+-- a good piece, kept behind those before: with f others there are the contents
+abbrev pub good_heard : Tracker → KeptPiece → Heard
+good_heard t piece =
+    let pieces = t.pieces ++ piece ∷ [] in record { after = record t { pieces = pieces }; step = kept_step t.reading.f pieces }
+
+abbrev pub piece_heard : Tracker → Option KeptPiece → Heard
+piece_heard t None = bad_heard t
+piece_heard t (Some piece) = good_heard t piece
+
+-- an answer of a cloud: one of a cloud that was good already comes to nothing
+abbrev pub heard : Tracker → ℕ → CloudAnswer → Heard
+heard t cloud answer =
+    if is_among cloud t.pieces then record { after = t; step = Wait } else piece_heard t (good_piece t.reading cloud answer)
+
+-- a turn: all clouds are asked, and one turn less is left
+abbrev pub turn_taken : Tracker → Tracker
+turn_taken t = record t { asked = t.reading.order; left = option_map (λ n. n - 1) t.left }
+
+-- what is to be done at a turn: the last one ends the reading, with so many good clouds
+abbrev pub turn_comes_to : Tracker → TurnStep
+turn_comes_to t = ends_at t.left (length t.pieces)
 
 -- how many good pieces there are after a step: f+1 with the contents, and fewer otherwise
 abbrev pub LeavesOpen : ReadStep → Tracker → Type 0

@@ -2,7 +2,7 @@ ghost use Rattle.std.specs.Prelude.{◌≡◌, ◌≢◌, ◌+◌, ◌*◌, ◌<
 ghost use Rattle.std.specs.Option.{option_to_list};
 ghost use Rattle.scfs_unit.specs.Checking.{kept, IsPiece};
 ghost use Rattle.scfs_quorum_read.specs.Reading.{Reading, Told, Answered, Turned, good_piece, is_among, first_unasked, asking, read_step, turn_step};
-ghost use Rattle.scfs_quorum_read.specs.Tracking.{StandsFor, IsOrder, LeavesOpen, kept_step};
+ghost use Rattle.scfs_quorum_read.specs.Tracking.{StandsFor, IsOrder, LeavesOpen, kept_step, begun, heard, turn_comes_to, turn_taken};
 
 use crate::steps::{ReadStep, TurnStep};
 use scfs_base::{CloudAnswer, Digest, Memory};
@@ -61,6 +61,7 @@ impl ReadTracker {
         ensures reading { IfOk result (λ tracker. tracker.reading
             ≡ record { f = f; root = root; size = length; order = order.now; turns = turns }) }
         ensures stands { IfOk result (λ tracker. StandsFor tracker []) }
+        ensures begins { IfOk result (λ tracker. tracker ≡ begun (record { f = f; root = root; size = length; order = order.now; turns = turns })) }
     {
         Ok(ReadTracker {
             alloc,
@@ -86,6 +87,8 @@ impl ReadTracker {
         ensures stands { IfOk result (λ step. (past : List Told) → StandsFor self.old past
             → StandsFor self.new (Answered cloud answer.now ∷ past)) }
         ensures open { IfOk result (λ step. LeavesOpen step self.new) }
+        ensures steps { IfOk result (λ step. step ≡ (heard self.old cloud answer.now).step) }
+        ensures after { IfOk result (λ step. self.new ≡ (heard self.old cloud answer.now).after) }
         ensures memory { OnErr result (good_piece self.old.reading cloud answer.now ≢ None) }
     {
         if !self.wants(cloud) {
@@ -172,6 +175,8 @@ impl ReadTracker {
         ensures step { (past : List Told) → StandsFor self.old past → result ≡ turn_step self.old.reading past }
         ensures stands { (past : List Told) → StandsFor self.old past → StandsFor self.new (Turned ∷ past) }
         ensures open { result ≡ TurnStep.Again → self.new.left ≢ Some 0 }
+        ensures steps { result ≡ turn_comes_to self.old }
+        ensures after { self.new ≡ turn_taken self.old }
     {
         self.asked = self.order.len();
         let Some(left) = self.left else {
@@ -190,6 +195,13 @@ impl ReadTracker {
         ensures { result ≡ not (is_among cloud self.now.pieces) }
     {
         !is_among(cloud, &self.pieces)
+    }
+
+    /// The order in which the clouds are asked.
+    pub fn order(&self) -> &[u8]
+        ensures { result.now ≡ self.now.reading.order }
+    {
+        self.order.as_slice()
     }
 
     /// How many different clouds have given a good answer.

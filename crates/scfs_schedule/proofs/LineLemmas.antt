@@ -2,9 +2,9 @@ use Rattle.std.proofs.Common.{◌≡◌, ℕ, ◌+◌, ◌-◌, ◌<◌, ◌≤�
 use Rattle.std.specs.Prelude.{slice_get, not}
 use Rattle.std.proofs.Math.Seq.{take-append-add, drop-append-add}
 use Rattle.std.proofs.lemmas.List.{take-append-drop}
+use Rattle.scfs_base.specs.Limits.{line_limit}
 use Rattle.scfs_base.specs.Pieces.{onto, pieces, CutsAt}
 use Rattle.scfs_schedule.specs.Holding.{HoldsNoLine, HoldsLongLine, is_unfinished}
-use Rattle.scfs_schedule.specs.declared.limits.TheConstants.{LINE_LIMIT}
 
 -- bytes before the first piece
 prefix : List ℕ → List (List ℕ) → List (List ℕ)
@@ -102,15 +102,15 @@ none_found held seen clear front is back =
     subst HoldsNoLine (take-append-drop clear held) (no_line_behind (take clear held) (drop clear held) front (subst HoldsNoLine is back))
 
 -- a whole line that is too long
-pub long_found : (held tail : List ℕ) (found : ℕ) → CutsAt 10 held (take found held) tail → found < length held → LINE_LIMIT < found → HoldsLongLine held
+pub long_found : (held tail : List ℕ) (found : ℕ) → CutsAt 10 held (take found held) tail → found < length held → line_limit < found → HoldsLongLine held
 long_found held tail found cut within long = λ more.
     (take found held, pieces 10 (tail ++ more), cut.first more, omega (arith, length-take-le found held (omega arith), long))
 
 -- too much for one line
-pub long_held : (held : List ℕ) → HoldsNoLine held → LINE_LIMIT < length held → HoldsLongLine held
+pub long_held : (held : List ℕ) → HoldsNoLine held → line_limit < length held → HoldsLongLine held
 unfolding prefix
 long_held held none long = λ more. first (pieces 10 more) (some_piece 10 more) more (pieces-behind 10 held more none) where
-  first : (ps : List (List ℕ)) → (ps ≡ [] → ⊥) → (more : List ℕ) → pieces 10 (held ++ more) ≡ prefix held ps → (front : List ℕ) × (others : List (List ℕ)) × (pieces 10 (held ++ more) ≡ front ∷ others) × (LINE_LIMIT < length front)
+  first : (ps : List (List ℕ)) → (ps ≡ [] → ⊥) → (more : List ℕ) → pieces 10 (held ++ more) ≡ prefix held ps → (front : List ℕ) × (others : List (List ℕ)) × (pieces 10 (held ++ more) ≡ front ∷ others) × (line_limit < length front)
   first [] some more is = absurd (some refl)
   first (p ∷ ps) some more is = (held ++ p, ps, is, omega (arith, length-append held p, long))
 

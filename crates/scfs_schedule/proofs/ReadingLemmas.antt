@@ -1,6 +1,7 @@
 use Rattle.std.proofs.Common.{◌≡◌, ℕ, ◌+◌, ◌-◌, ◌<◌, ◌≤◌, List, [], ◌∷◌, ◌++◌, length, take, Bool, true, false, cond, ltb, ◌||◌, refl, ap, ◌∙◌, sym, subst, arith, append_assoc, append-nil, zero, suc, length-append, ◌==◌, Option, Some, None}
 use Rattle.std.specs.Prelude.{Result, Ok, Err}
 use Rattle.std.proofs.lemmas.Bool.Decides.{nat_tests}
+use Rattle.scfs_base.specs.Limits.{input_limit, line_limit}
 use Rattle.scfs_base.specs.Pieces.{onto, pieces, CutsAt}
 use Rattle.scfs_schedule.specs.declared.types.Ending.{Ending}
 use Rattle.scfs_schedule.specs.declared.types.Ending.TheVariants as endings
@@ -24,7 +25,6 @@ use Rattle.scfs_schedule.specs.Reading.{Reading, after, read_lines, gives, unles
 use Rattle.scfs_schedule.specs.Lines.{EndsBehindHeader, Cuts, Finds, MovesOn}
 use Rattle.scfs_schedule.specs.declared.progress.Found.{Found}
 use Rattle.scfs_schedule.specs.declared.progress.Found.TheVariants as founds
-use Rattle.scfs_schedule.specs.declared.limits.TheConstants.{INPUT_LIMIT, LINE_LIMIT}
 
 head-onto : (script longer : Bool) (place : Place) (n b : ℕ) (line : List ℕ) (ps : List (List ℕ)) → read_lines script longer place n (line ∷ onto b ps) ≡ cond (is_too_long line) long_line (after (said_of script place line) place (n + 1) (λ p. read_lines script longer p (n + 1) (onto b ps)))
 head-onto script longer place n b line [] = refl
@@ -38,26 +38,26 @@ first_of_more : (script longer : Bool) (place : Place) (n : ℕ) (line text : Li
 first_of_more script longer place n line [] = refl
 first_of_more script longer place n line (b ∷ bs) = by_test script longer place n b line (pieces 10 bs) (b == 10)
 
-pub not_too_long : (line : List ℕ) → length line ≤ LINE_LIMIT → is_too_long line ≡ false
+pub not_too_long : (line : List ℕ) → length line ≤ line_limit → is_too_long line ≡ false
 not_too_long line short = grind (arith, nat_tests)
 
-pub too_long : (line : List ℕ) → LINE_LIMIT < length line → is_too_long line ≡ true
+pub too_long : (line : List ℕ) → line_limit < length line → is_too_long line ≡ true
 too_long line long = grind (arith, nat_tests)
 
 -- a line with more behind it
-pub line_first : (script longer : Bool) (place : Place) (n : ℕ) (line text : List ℕ) → length line ≤ LINE_LIMIT → read_lines script longer place n (line ∷ pieces 10 text) ≡ after (said_of script place line) place (n + 1) (λ p. read_lines script longer p (n + 1) (pieces 10 text))
+pub line_first : (script longer : Bool) (place : Place) (n : ℕ) (line text : List ℕ) → length line ≤ line_limit → read_lines script longer place n (line ∷ pieces 10 text) ≡ after (said_of script place line) place (n + 1) (λ p. read_lines script longer p (n + 1) (pieces 10 text))
 line_first script longer place n line text short =
     first_of_more script longer place n line text
     ∙ ap (λ t. cond t long_line (after (said_of script place line) place (n + 1) (λ p. read_lines script longer p (n + 1) (pieces 10 text)))) (not_too_long line short)
 
 -- a line that is too long
-line_long : (script longer : Bool) (place : Place) (n : ℕ) (line : List ℕ) (others : List (List ℕ)) → LINE_LIMIT < length line → read_lines script longer place n (line ∷ others) ≡ long_line
+line_long : (script longer : Bool) (place : Place) (n : ℕ) (line : List ℕ) (others : List (List ℕ)) → line_limit < length line → read_lines script longer place n (line ∷ others) ≡ long_line
 line_long script longer place n line [] long = ap (λ t. cond t long_line (stopped (unfinished longer (n + 1)))) (too_long line long)
 line_long script longer place n line (next ∷ rest) long =
     ap (λ t. cond t long_line (after (said_of script place line) place (n + 1) (λ p. read_lines script longer p (n + 1) (next ∷ rest)))) (too_long line long)
 
 -- what a reader gives whose first line is cut off
-one_line : (r : Reading) (line tail more : List ℕ) → r.ending ≡ None → CutsAt 10 r.rest line tail → length line ≤ LINE_LIMIT → gives r more ≡ after (said_of r.script r.place line) r.place (r.lines + 1) (λ p. gives (record r { place = p; lines = r.lines + 1; rest = tail }) more)
+one_line : (r : Reading) (line tail more : List ℕ) → r.ending ≡ None → CutsAt 10 r.rest line tail → length line ≤ line_limit → gives r more ≡ after (said_of r.script r.place line) r.place (r.lines + 1) (λ p. gives (record r { place = p; lines = r.lines + 1; rest = tail }) more)
 one_line r line tail more was_open cut short =
     let longer = r.longer || ltb r.room (length more) in
     ap (λ e. unless_ended e (read_lines r.script longer r.place r.lines (pieces 10 (r.rest ++ take r.room more)))) was_open
@@ -123,8 +123,8 @@ end_place (places.Agents header) fits = absurd fits
 end_place (places.Events header) fits = (header, refl)
 
 -- what the calls that go behind a line ask of it
-pub counted_now : (old mid : Reading) (said : Said) → Cuts old mid said → mid.lines + (length mid.rest + mid.room) < INPUT_LIMIT
-counted_now old mid said c = subst (λ (m : Reading). m.lines + (length m.rest + m.room) < INPUT_LIMIT) (sym c.state) c.counted
+pub counted_now : (old mid : Reading) (said : Said) → Cuts old mid said → mid.lines + (length mid.rest + mid.room) < input_limit
+counted_now old mid said c = subst (λ (m : Reading). m.lines + (length m.rest + m.room) < input_limit) (sym c.state) c.counted
 
 pub open_now : (old mid : Reading) (said : Said) → old.ending ≡ None → Cuts old mid said → mid.ending ≡ None
 open_now old mid said was_open c = cut_open old mid said was_open c
@@ -251,7 +251,7 @@ pub or_false : (b c : Bool) → c ≡ false → (b || c) ≡ b
 or_false true c h = refl
 or_false false c h = h
 
-no_line_gives : (r : Reading) (more : List ℕ) → r.ending ≡ None → HoldsNoLine r.rest → length r.rest ≤ LINE_LIMIT → take r.room more ≡ [] → gives r more ≡ stopped (unfinished (r.longer || ltb r.room (length more)) (r.lines + 1))
+no_line_gives : (r : Reading) (more : List ℕ) → r.ending ≡ None → HoldsNoLine r.rest → length r.rest ≤ line_limit → take r.room more ≡ [] → gives r more ≡ stopped (unfinished (r.longer || ltb r.room (length more)) (r.lines + 1))
 no_line_gives r more open' none short room =
     let longer = r.longer || ltb r.room (length more) in
     ap (λ e. unless_ended e (read_lines r.script longer r.place r.lines (pieces 10 (r.rest ++ take r.room more)))) open'
@@ -261,7 +261,7 @@ no_line_gives r more open' none short room =
     ∙ ap (λ t. cond t long_line (stopped (unfinished longer (r.lines + 1)))) (not_too_long r.rest short)
 
 -- nothing is held that could be given
-pub waits : (old new : Reading) → old.ending ≡ None → HoldsNoLine old.rest → length old.rest ≤ LINE_LIMIT → new ≡ old → old.longer ≡ false → Gives (Ok None) old new
+pub waits : (old new : Reading) → old.ending ≡ None → HoldsNoLine old.rest → length old.rest ≤ line_limit → new ≡ old → old.longer ≡ false → Gives (Ok None) old new
 waits old new open' none short is longer =
     let empty : List ℕ = [] in
     let drained : gives old empty ≡ stopped (ending_now old old.ending) =
@@ -275,12 +275,12 @@ waits old new open' none short is longer =
       λ h e. ap (λ (m : Reading). m.place) is ∙ e,
       λ h e. sym (ap (λ (m : Reading). m.place) is) ∙ e,
       λ more. ap (λ (m : Reading). gives m more) (sym is),
-      subst (λ (m : Reading). length m.rest ≤ LINE_LIMIT) (sym is) short,
+      subst (λ (m : Reading). length m.rest ≤ line_limit) (sym is) short,
       λ h e. ap (λ (m : Reading). m.lines) is,
     )
 
 -- more came than is looked at
-pub too_large : (old new : Reading) → old.ending ≡ None → HoldsNoLine old.rest → length old.rest ≤ LINE_LIMIT → old.longer ≡ true → old.room ≡ 0 → new ≡ record old { ending = Some (endings.Stopped (stops.TooLarge whichs.Input)) } → Stops (stops.TooLarge whichs.Input) old new
+pub too_large : (old new : Reading) → old.ending ≡ None → HoldsNoLine old.rest → length old.rest ≤ line_limit → old.longer ≡ true → old.room ≡ 0 → new ≡ record old { ending = Some (endings.Stopped (stops.TooLarge whichs.Input)) } → Stops (stops.TooLarge whichs.Input) old new
 too_large old new open' none short longer full is = (
   ap (λ (m : Reading). m.ending) is,
   subst IsDrained (sym is) refl,

@@ -1,7 +1,7 @@
 use Rattle.std.proofs.Common.{◌≡◌, ℕ, ◌+◌, ◌-◌, ◌<◌, ◌≤◌, List, [], ◌∷◌, ◌++◌, length, take, drop, Bool, true, false, cond, eqb, ltb, ◌||◌, refl, ap, ◌∙◌, sym, subst, arith, append_assoc, length-append, Some, None, length-take-le}
 use Rattle.std.specs.Prelude.{Result, Ok, Err, OnOk}
+use Rattle.scfs_base.specs.Limits.{line_limit}
 use Rattle.scfs_base.specs.Pieces.{onto, pieces}
-use Rattle.scfs_schedule.specs.declared.limits.TheConstants.{LINE_LIMIT}
 use Rattle.scfs_schedule.specs.declared.types.Stop.{Stop}
 use Rattle.scfs_schedule.specs.declared.types.Stop.TheVariants as stops
 use Rattle.scfs_schedule.specs.declared.types.Which.{Which}
@@ -24,7 +24,7 @@ first_of_more : (longer : Bool) (which : Which) (line text : List ℕ) → split
 first_of_more longer which line [] = refl
 first_of_more longer which line (b ∷ bs) = by_test longer which b line (pieces 10 bs) (eqb b 10)
 
-long_first : (longer : Bool) (which : Which) (line : List ℕ) (others : List (List ℕ)) → LINE_LIMIT < length line → split_lines longer which (line ∷ others) ≡ no_lines (Some whichs.Line)
+long_first : (longer : Bool) (which : Which) (line : List ℕ) (others : List (List ℕ)) → line_limit < length line → split_lines longer which (line ∷ others) ≡ no_lines (Some whichs.Line)
 long_first longer which line [] long = ap (λ t. cond t (no_lines (Some whichs.Line)) (no_lines (cond longer (Some which) None))) (too_long line long)
 long_first longer which line (next ∷ rest) long =
     ap (λ t. cond t (no_lines (Some whichs.Line)) (with_line line (split_lines longer which (next ∷ rest)))) (too_long line long)
@@ -35,7 +35,7 @@ given_at old new line n open' first is state =
     let cut = first.2 in
     let size : length line ≡ length (take n old.rest) = ap length is in
     let tail : length new.rest ≡ length (drop (n + 1) old.rest) = ap (λ (s : Splitting). length s.rest) state in
-    let short : length line ≤ LINE_LIMIT = omega (arith, size, first.1, length-take-le n old.rest (omega (arith, first.0))) in (
+    let short : length line ≤ line_limit = omega (arith, size, first.1, length-take-le n old.rest (omega (arith, first.0))) in (
       open',
       ap (λ (s : Splitting). s.passed) state ∙ open',
       ap (λ (s : Splitting). s.number) state,

@@ -6,6 +6,7 @@ use Rattle.std.specs.Char.{is_ascii_digit}
 use Rattle.std.proofs.lemmas.Bool.Decides.{nat_tests}
 use Rattle.std.proofs.lemmas.List.{take_all}
 use Rattle.std.proofs.lemmas.Fmt.{digits_decimal, decimal_digit, length-decimal-le}
+use Rattle.scfs_base.specs.Limits.{input_limit, line_limit}
 use Rattle.scfs_base.specs.Pieces.{onto, pieces}
 use Rattle.scfs_base.specs.Words.{path_word, path_byte, hex_text, hex_word, hex_pair, hex_digit, AreBytes, stands_for_itself}
 use Rattle.scfs_base.proofs.NumberLemmas.{own}
@@ -25,7 +26,6 @@ use Rattle.scfs_schedule.specs.declared.types.Place.{Place}
 use Rattle.scfs_schedule.specs.declared.types.Place.TheVariants as places
 use Rattle.scfs_schedule.specs.declared.types.Said.{Said}
 use Rattle.scfs_schedule.specs.declared.types.Said.TheVariants as saids
-use Rattle.scfs_schedule.specs.declared.limits.TheConstants.{INPUT_LIMIT, LINE_LIMIT}
 use Rattle.scfs_schedule.specs.Grammar.{in_form, number_within, mode, with_agent, agent_line, agents_said, header_number, said_by, said_of, event_said, event_of, words_of, IsHeader, IsScriptEvent}
 use Rattle.scfs_schedule.specs.Text.{mode_text, call_text, answer_text, names_text, event_text, event_line, agent_text, agents_text, header_text}
 use Rattle.scfs_schedule.specs.Reading.{after, read_lines, read, stopped, with_event, with_header}
@@ -222,7 +222,7 @@ line_says true header (events.Again a) of_script is = absurd (of_script refl)
 line_says true header (events.Twice a) of_script is = absurd (of_script refl)
 
 -- a whole line that is not too long
-step : (script longer : Bool) (place : Place) (n : ℕ) (line rest : List ℕ) (said : Said) → IsPlain line → length line ≤ LINE_LIMIT → said_of script place line ≡ said → read_lines script longer place n (pieces 10 (line ++ 10 ∷ rest)) ≡ after said place (n + 1) (λ p. read_lines script longer p (n + 1) (pieces 10 rest))
+step : (script longer : Bool) (place : Place) (n : ℕ) (line rest : List ℕ) (said : Said) → IsPlain line → length line ≤ line_limit → said_of script place line ≡ said → read_lines script longer place n (pieces 10 (line ++ 10 ∷ rest)) ≡ after said place (n + 1) (λ p. read_lines script longer p (n + 1) (pieces 10 rest))
 step script longer place n line rest said plain short says =
     ap (read_lines script longer place n) (line_behind line rest (plain_alone line plain))
     ∙ line_first script longer place n line rest short
@@ -250,7 +250,7 @@ events_read script longer header n (event ∷ more) all =
 number_short : (n : ℕ) → n < 2 ^ 64 → length (decimal n) ≤ 20
 number_short n h = length-decimal-le 20 n (omega arith) (omega arith) h
 
-short_line : (word : List ℕ) (n : ℕ) → length word ≤ 20 → n < 2 ^ 64 → length (word ++ decimal n) ≤ LINE_LIMIT
+short_line : (word : List ℕ) (n : ℕ) → length word ≤ 20 → n < 2 ^ 64 → length (word ++ decimal n) ≤ line_limit
 short_line word n few small = omega (arith, length-append word (decimal n), number_short n small)
 
 -- what each line of the header says
@@ -320,7 +320,7 @@ unfolding IsPlain agent_row
 row_plain number agent small =
     plain_more (decimal number ++ 32 ∷ mode_text agent.0) (hex_word agent.1) (plain_more (decimal number) (mode_text agent.0) (number_plain number small) (mode_plain agent.0)) (hex_word_plain agent.1)
 
-row_short : (number : ℕ) (agent : Mode × List ℕ) → number < 2 ^ 64 → length agent.1 ≡ 32 → length (agent_row number agent) ≤ LINE_LIMIT
+row_short : (number : ℕ) (agent : Mode × List ℕ) → number < 2 ^ 64 → length agent.1 ≡ 32 → length (agent_row number agent) ≤ line_limit
 unfolding agent_row
 row_short number agent small size =
     omega (arith, length-append (decimal number ++ 32 ∷ mode_text agent.0) (32 ∷ hex_word agent.1), length-append (decimal number) (32 ∷ mode_text agent.0), number_short number small, mode_short agent.0, length-hex_word agent.1, size)
@@ -379,17 +379,17 @@ header_next script longer header rest is are =
     ∙ step script longer (places.Agents header) (4 + length header.agents) (codes "begin") rest (saids.Begins header) (letter (codes "begin") refl) (omega arith) (begin_says script header is.agents.0)
     ∙ ap (λ n. with_header header (read_lines script longer (places.Events header) n (pieces 10 rest))) (let e : (4 + length header.agents) + 1 ≡ length header.agents + 5 = omega arith in e)
 
-within_limit : (text : List ℕ) → length text ≤ INPUT_LIMIT → (ltb INPUT_LIMIT (length text) ≡ false) × (take INPUT_LIMIT text ≡ text)
-within_limit text few = (not_above (length text) few, take_all INPUT_LIMIT text few) where
-  not_above : (n : ℕ) → n ≤ INPUT_LIMIT → ltb INPUT_LIMIT n ≡ false
+within_limit : (text : List ℕ) → length text ≤ input_limit → (ltb input_limit (length text) ≡ false) × (take input_limit text ≡ text)
+within_limit text few = (not_above (length text) few, take_all input_limit text few) where
+  not_above : (n : ℕ) → n ≤ input_limit → ltb input_limit n ≡ false
   not_above n few = grind (arith, nat_tests)
 
 -- a text that was written is read
-pub schedule_read : (script : Bool) (header : Header) (events : List Event) → IsHeader header → AreAgents header.agents → AllMayStand script header events → length (schedule_text header events) ≤ INPUT_LIMIT → read script (schedule_text header events) ≡ record { header = Some header; events = events; ending = endings.Ended }
+pub schedule_read : (script : Bool) (header : Header) (events : List Event) → IsHeader header → AreAgents header.agents → AllMayStand script header events → length (schedule_text header events) ≤ input_limit → read script (schedule_text header events) ≡ record { header = Some header; events = events; ending = endings.Ended }
 schedule_read script header events is are may few =
     let text = schedule_text header events in
     let whole = within_limit text few in
-    ap (λ b. read_lines script b places.Version 0 (pieces 10 (take INPUT_LIMIT text))) whole.0
+    ap (λ b. read_lines script b places.Version 0 (pieces 10 (take input_limit text))) whole.0
     ∙ ap (λ t. read_lines script false places.Version 0 (pieces 10 t)) whole.1
     ∙ header_next script false header (flat_map event_line events ++ codes "end\n") is are
     ∙ ap (with_header header) (events_read script false header (length header.agents + 5) events may)

@@ -1,5 +1,6 @@
 use Rattle.std.specs.Prelude.{ℕ, ◌+◌, ◌-◌, ◌*◌, ◌<◌, ◌≤◌, List, [], ◌∷◌, ◌++◌, codes, Bool, ◌&&◌, ◌||◌, not, nat_lt, nat_le, ◌==◌, if◌then◌else◌, Option, Some, None, Result, Ok, Err, length}
 use Rattle.std.specs.Str.{bytes_eq}
+use Rattle.scfs_base.specs.Limits.{names_limit}
 use Rattle.scfs_base.specs.Pieces.{pieces}
 use Rattle.scfs_base.specs.Words.{number_of, path_of, hex_of, digest_of}
 use Rattle.scfs_base.specs.declared.cloud.CloudAnswer.{CloudAnswer}
@@ -275,7 +276,7 @@ IsEvent header (events.Told a) = a < length header.agents
 IsEvent header (events.Serve c) = c < 3 * header.f + 1
 IsEvent header (events.Hide c) = c < 3 * header.f + 1
 IsEvent header (events.Fail c) = c < 3 * header.f + 1
-IsEvent header (events.Say c answer) = (c < 3 * header.f + 1) × HasNames answer 16
+IsEvent header (events.Say c answer) = (c < 3 * header.f + 1) × HasNames answer names_limit
 IsEvent header (events.Give c) = c < 3 * header.f + 1
 IsEvent header (events.Lose c) = c < 3 * header.f + 1
 IsEvent header (events.Drop c) = c < 3 * header.f + 1

@@ -1,8 +1,8 @@
 use Rattle.std.specs.Prelude.{◌≡◌, ℕ, ◌+◌, ◌-◌, ◌<◌, ◌≤◌, List, [], ◌∷◌, ◌++◌, Bool, false, ◌||◌, not, nat_lt, ◌==◌, length, take, drop}
+use Rattle.scfs_base.specs.Limits.{line_limit}
 use Rattle.scfs_base.specs.Pieces.{pieces, CutsAt}
 use Rattle.scfs_schedule.specs.declared.progress.FirstLine.{FirstLine}
 use Rattle.scfs_schedule.specs.declared.progress.FirstLine.TheVariants as firsts
-use Rattle.scfs_schedule.specs.declared.limits.TheConstants.{LINE_LIMIT}
 
 -- bytes that wait to be read, how many more are taken, and whether more came than were taken
 pub record Holding : Type 0 where
@@ -26,7 +26,7 @@ HoldsNoLine bytes = pieces 10 bytes ≡ bytes ∷ []
 -- whatever comes behind them, these bytes begin with a line that is too long
 abbrev pub HoldsLongLine : List ℕ → Type 0
 HoldsLongLine bytes =
-    (more : List ℕ) → (first : List ℕ) × (others : List (List ℕ)) × (pieces 10 (bytes ++ more) ≡ first ∷ others) × (LINE_LIMIT < length first)
+    (more : List ℕ) → (first : List ℕ) × (others : List (List ℕ)) × (pieces 10 (bytes ++ more) ≡ first ∷ others) × (line_limit < length first)
 
 -- bytes that end within a line
 abbrev pub is_unfinished : List ℕ → Bool
@@ -41,6 +41,6 @@ pub record IsHeld (held : List ℕ) (clear : ℕ) : Type 0 where
 
 -- what stands first in some bytes
 abbrev pub StandsFirst : FirstLine → List ℕ → Type 0
-StandsFirst firsts.Unfinished bytes = HoldsNoLine bytes × (length bytes ≤ LINE_LIMIT)
+StandsFirst firsts.Unfinished bytes = HoldsNoLine bytes × (length bytes ≤ line_limit)
 StandsFirst firsts.TooLong bytes = HoldsLongLine bytes
-StandsFirst (firsts.Whole n) bytes = (n < length bytes) × (n ≤ LINE_LIMIT) × CutsAt 10 bytes (take n bytes) (drop (n + 1) bytes)
+StandsFirst (firsts.Whole n) bytes = (n < length bytes) × (n ≤ line_limit) × CutsAt 10 bytes (take n bytes) (drop (n + 1) bytes)

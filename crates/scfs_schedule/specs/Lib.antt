@@ -1,6 +1,7 @@
 pub mod Grammar
 pub mod Holding
 pub mod Lines
+pub mod Phrases
 pub mod Places
 pub mod Reading
 pub mod Splitting

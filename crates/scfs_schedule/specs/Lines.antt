@@ -1,4 +1,5 @@
 use Rattle.std.specs.Prelude.{◌≡◌, ℕ, ◌+◌, ◌<◌, ◌≤◌, List, true, Option, Some, None, Result, Ok, Err, length}
+use Rattle.scfs_base.specs.Limits.{input_limit, line_limit}
 use Rattle.scfs_base.specs.Pieces.{CutsAt}
 use Rattle.scfs_schedule.specs.declared.types.Ending.{Ending}
 use Rattle.scfs_schedule.specs.declared.types.Ending.TheVariants as endings
@@ -9,7 +10,6 @@ use Rattle.scfs_schedule.specs.declared.progress.Found.{Found}
 use Rattle.scfs_schedule.specs.declared.progress.Found.TheVariants as founds
 use Rattle.scfs_schedule.specs.declared.progress.Progress.{Progress}
 use Rattle.scfs_schedule.specs.declared.progress.Progress.TheVariants as progress
-use Rattle.scfs_schedule.specs.declared.limits.TheConstants.{INPUT_LIMIT, LINE_LIMIT}
 use Rattle.scfs_schedule.specs.Grammar.{said_of}
 use Rattle.scfs_schedule.specs.Holding.{Holding, HoldsNoLine, HoldsLongLine}
 use Rattle.scfs_schedule.specs.Places.{IsPlace, IsInHeader, IsBehind, IsSaidAt}
@@ -27,7 +27,7 @@ IsNumbered None place lines = IsBehind place lines
 
 -- what a reader keeps of its fields
 pub record Keeps (held : Holding) (lines : ℕ) (place : Place) (ending : Option Ending) : Type 0 where
-  pub counted : lines + (length held.rest + held.room) ≤ INPUT_LIMIT
+  pub counted : lines + (length held.rest + held.room) ≤ input_limit
   pub full : held.longer ≡ true → held.room ≡ 0
   pub in_range : IsPlace place
   pub ended : EndsBehindHeader ending place
@@ -38,16 +38,16 @@ pub record Cuts (old new : Reading) (said : Said) : Type 0 where
   pub line : List ℕ
   pub tail : List ℕ
   pub cut : CutsAt 10 old.rest line tail
-  pub short : length line ≤ LINE_LIMIT
+  pub short : length line ≤ line_limit
   pub says : said ≡ said_of old.script old.place line
   pub fits : IsSaidAt old.place said
   pub numbered : IsBehind old.place old.lines
-  pub counted : old.lines + (length tail + old.room) < INPUT_LIMIT
+  pub counted : old.lines + (length tail + old.room) < input_limit
   pub state : new ≡ record old { rest = tail }
 
 -- a whole line is taken off, or nothing changes since there is none or a line is too long
 abbrev pub Finds : Found → Reading → Reading → Type 0
-Finds founds.NoLine old new = HoldsNoLine old.rest × (length old.rest ≤ LINE_LIMIT) × (new ≡ old)
+Finds founds.NoLine old new = HoldsNoLine old.rest × (length old.rest ≤ line_limit) × (new ≡ old)
 Finds founds.LongLine old new = HoldsLongLine old.rest × (new ≡ old)
 Finds (founds.Line said) old new = Cuts old new said
 
@@ -62,7 +62,7 @@ pub record MovesOn (old new : Reading) : Type 0 where
 
 -- what one line does to a reader that met no ending
 abbrev pub Goes : Result Progress Stop → Reading → Reading → Type 0
-Goes (Ok progress.Nothing) old new = HoldsNoLine old.rest × (length old.rest ≤ LINE_LIMIT) × (new ≡ old)
+Goes (Ok progress.Nothing) old new = HoldsNoLine old.rest × (length old.rest ≤ line_limit) × (new ≡ old)
 Goes (Ok progress.Moved) old new = MovesOn old new
 Goes (Ok (progress.Gave item)) old new = Gives (Ok (Some item)) old new
 Goes (Err stop) old new = Stops stop old new

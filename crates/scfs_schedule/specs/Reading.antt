@@ -1,4 +1,5 @@
 use Rattle.std.specs.Prelude.{◌≡◌, ℕ, ◌+◌, ◌<◌, ◌≤◌, List, [], ◌∷◌, ◌++◌, Bool, true, false, ◌||◌, nat_lt, if◌then◌else◌, Option, Some, None, Result, Ok, Err, length, take}
+use Rattle.scfs_base.specs.Limits.{input_limit, line_limit}
 use Rattle.scfs_base.specs.Pieces.{pieces}
 use Rattle.scfs_schedule.specs.declared.types.Header.{Header}
 use Rattle.scfs_schedule.specs.declared.types.Event.{Event}
@@ -15,7 +16,6 @@ use Rattle.scfs_schedule.specs.declared.types.Said.TheVariants as saids
 use Rattle.scfs_schedule.specs.declared.types.Stop.{Stop}
 use Rattle.scfs_schedule.specs.declared.types.Stop.TheVariants as stops
 use Rattle.scfs_schedule.specs.declared.types.Which.TheVariants as whichs
-use Rattle.scfs_schedule.specs.declared.limits.TheConstants.{INPUT_LIMIT, LINE_LIMIT}
 use Rattle.scfs_schedule.specs.Grammar.{said_of, IsEvent, IsHeader, IsScriptEvent}
 
 -- what a text says: its header, its events, and how it ends
@@ -42,7 +42,7 @@ bad_line line kind = endings.Stopped (stops.Bad (record { line = line; kind = ki
 
 -- a line that is longer than any line may be
 abbrev pub is_too_long : List ℕ → Bool
-is_too_long line = nat_lt LINE_LIMIT (length line)
+is_too_long line = nat_lt line_limit (length line)
 
 -- the stop at a line that is too long
 abbrev pub long_line : Read
@@ -70,9 +70,9 @@ read_lines script longer place lines (line ∷ next ∷ rest) =
     if is_too_long line then long_line
     else after (said_of script place line) place (lines + 1) (λ p. read_lines script longer p (lines + 1) (next ∷ rest))
 
--- what a text says, as a schedule or as a script: at most the first INPUT_LIMIT bytes are looked at
+-- what a text says, as a schedule or as a script: at most the first input_limit bytes are looked at
 abbrev pub read : Bool → List ℕ → Read
-read script text = read_lines script (nat_lt INPUT_LIMIT (length text)) places.Version 0 (pieces 10 (take INPUT_LIMIT text))
+read script text = read_lines script (nat_lt input_limit (length text)) places.Version 0 (pieces 10 (take input_limit text))
 
 -- where a reader stands: whether it reads a script, its place in the text, how many lines are behind it, the bytes that it holds, how many more it
 -- may take, whether there were more than it may take, and the ending that it met
@@ -87,7 +87,7 @@ pub record Reading : Type 0 where
 
 -- a new reader of a schedule or of a script
 abbrev pub unread : Bool → Reading
-unread script = record { script = script; place = places.Version; lines = 0; rest = []; room = INPUT_LIMIT; longer = false; ending = None }
+unread script = record { script = script; place = places.Version; lines = 0; rest = []; room = input_limit; longer = false; ending = None }
 
 abbrev pub unless_ended : Option Ending → Read → Read
 unless_ended None read = read
@@ -145,6 +145,6 @@ Gives (Ok (Some items.End)) old new =
 Gives (Ok None) old new =
     IsDrained new × (old.ending ≡ None) × (new.ending ≡ None) × (new.longer ≡ false)
     × ((h : Header) → IsAtEvents old h → IsAtEvents new h) × ((h : Header) → IsAtEvents new h → IsAtEvents old h)
-    × ((more : List ℕ) → gives old more ≡ gives new more) × (length new.rest ≤ LINE_LIMIT)
+    × ((more : List ℕ) → gives old more ≡ gives new more) × (length new.rest ≤ line_limit)
     × ((h : Header) → IsAtEvents old h → new.lines ≡ old.lines)
 Gives (Err stop) old new = Stops stop old new

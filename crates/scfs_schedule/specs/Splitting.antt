@@ -1,10 +1,10 @@
 use Rattle.std.specs.Prelude.{◌≡◌, ℕ, ◌+◌, ◌^◌, ◌<◌, ◌≤◌, List, [], ◌∷◌, ◌++◌, Bool, true, false, ◌||◌, nat_lt, if◌then◌else◌, Option, Some, None, Result, Ok, Err, length, take}
+use Rattle.scfs_base.specs.Limits.{line_limit}
 use Rattle.scfs_base.specs.Pieces.{pieces}
 use Rattle.scfs_schedule.specs.declared.types.Stop.{Stop}
 use Rattle.scfs_schedule.specs.declared.types.Stop.TheVariants as stops
 use Rattle.scfs_schedule.specs.declared.types.Which.{Which}
 use Rattle.scfs_schedule.specs.declared.types.Which.TheVariants as whichs
-use Rattle.scfs_schedule.specs.declared.limits.TheConstants.{LINE_LIMIT}
 use Rattle.scfs_schedule.specs.Holding.{Holding}
 use Rattle.scfs_schedule.specs.Reading.{is_too_long}
 
@@ -61,9 +61,9 @@ lines_of splitting more =
 -- want of memory leaves everything as it was
 abbrev pub GivesLine : Result (Option (List ℕ)) Stop → Splitting → Splitting → Type 0
 GivesLine (Ok (Some line)) old new =
-    (old.passed ≡ None) × (new.passed ≡ None) × (new.number ≡ old.number + 1) × (length line ≤ LINE_LIMIT)
+    (old.passed ≡ None) × (new.passed ≡ None) × (new.number ≡ old.number + 1) × (length line ≤ line_limit)
     × (length new.rest < length old.rest) × ((more : List ℕ) → lines_of old more ≡ with_line line (lines_of new more))
-GivesLine (Ok None) old new = (old.passed ≡ None) × (new ≡ old) × (lines_of old [] ≡ no_lines None) × (length old.rest ≤ LINE_LIMIT)
+GivesLine (Ok None) old new = (old.passed ≡ None) × (new ≡ old) × (lines_of old [] ≡ no_lines None) × (length old.rest ≤ line_limit)
 GivesLine (Err stops.Memory) old new = (new ≡ old)
 GivesLine (Err (stops.Bad bad)) old new = ⊥
 GivesLine (Err (stops.TooLarge which)) old new =

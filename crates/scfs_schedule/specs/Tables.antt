@@ -1,5 +1,6 @@
 use Rattle.std.specs.Prelude.{ℕ, List, [], ◌∷◌, ◌++◌, codes, Bool, nat_le, ◌==◌, if◌then◌else◌, Option, Some, None}
 use Rattle.std.specs.Str.{bytes_eq}
+use Rattle.scfs_base.specs.Limits.{names_limit}
 use Rattle.scfs_schedule.specs.declared.tables.AgentWord.{AgentWord}
 use Rattle.scfs_schedule.specs.declared.tables.AgentWord.TheVariants as agents
 use Rattle.scfs_schedule.specs.declared.tables.CloudWord.{CloudWord}
@@ -115,4 +116,4 @@ may_follow answers.Ack count = count == 0
 may_follow answers.Absent count = count == 0
 may_follow answers.Fail count = count == 0
 may_follow answers.Bytes count = count == 1
-may_follow answers.Names count = nat_le count 16
+may_follow answers.Names count = nat_le count names_limit

@@ -1,5 +1,6 @@
 use Rattle.std.specs.Prelude.{◌≡◌, ℕ, ◌^◌, ◌<◌, ◌≤◌, List, [], ◌∷◌, ◌++◌, codes, Bool, true, length}
 use Rattle.std.specs.List.{flat_map}
+use Rattle.scfs_base.specs.Limits.{line_limit}
 use Rattle.scfs_base.specs.Words.{AreBytes}
 use Rattle.scfs_base.specs.declared.cloud.CloudAnswer.{CloudAnswer}
 use Rattle.scfs_base.specs.declared.cloud.CloudAnswer.TheVariants as answers
@@ -9,7 +10,6 @@ use Rattle.scfs_schedule.specs.declared.types.Event.{Event}
 use Rattle.scfs_schedule.specs.declared.types.Event.TheVariants as events
 use Rattle.scfs_schedule.specs.declared.types.Header.{Header}
 use Rattle.scfs_schedule.specs.declared.types.Mode.{Mode}
-use Rattle.scfs_schedule.specs.declared.limits.TheConstants.{LINE_LIMIT}
 use Rattle.scfs_schedule.specs.Grammar.{IsEvent, IsScriptEvent}
 use Rattle.scfs_schedule.specs.Text.{event_text, event_line, header_text}
 
@@ -72,7 +72,7 @@ IsInRange (events.Start a) = a < 2 ^ 64
 pub record MayStand (script : Bool) (header : Header) (event : Event) : Type 0 where
   pub form : IsEvent header event
   pub range : IsInRange event
-  pub short : length (event_text event) ≤ LINE_LIMIT
+  pub short : length (event_text event) ≤ line_limit
   pub of_script : script ≡ true → IsScriptEvent event
 
 -- each of them may

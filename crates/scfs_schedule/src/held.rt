@@ -1,7 +1,7 @@
 ghost use Rattle.std.specs.Prelude.{◌≡◌, ℕ, ◌+◌, ◌<◌, ◌≤◌, [], ◌++◌, length, take, drop, false, OnOk, OnErr, MatchOption};
+ghost use Rattle.scfs_base.specs.Limits.{line_limit};
 ghost use Rattle.scfs_base.specs.Pieces.{CutsAt};
 ghost use Rattle.scfs_schedule.specs.Holding.{HoldsNoLine, HoldsLongLine, StandsFirst, is_unfinished, with_piece};
-ghost use Rattle.scfs_schedule.specs.declared.limits.TheConstants.{LINE_LIMIT};
 
 use crate::LINE_LIMIT;
 use crate::progress::FirstLine;
@@ -70,7 +70,7 @@ fn first_line(held: &[u8], clear: usize) -> Option<usize>
     requires no_line { HoldsNoLine (take clear held.now) }
     ensures cut { MatchOption result (HoldsNoLine held.now) (λ n. CutsAt 10 held.now (take n held.now) (drop (n + 1) held.now)) }
     ensures within { MatchOption result (clear ≤ length held.now) (λ n. n < length held.now) }
-    ensures none_long { MatchOption result (LINE_LIMIT < length held.now → HoldsLongLine held.now) (λ n. LINE_LIMIT < n → HoldsLongLine held.now) }
+    ensures none_long { MatchOption result (line_limit < length held.now → HoldsLongLine held.now) (λ n. line_limit < n → HoldsLongLine held.now) }
 {
     match cut(&held[clear..], b'\n') {
         Some((front, _)) => Some(clear + front.len()),

@@ -1,9 +1,9 @@
 ghost use Rattle.std.specs.Prelude.{◌≡◌, ◌≤◌, Ok, Some, length};
+ghost use Rattle.scfs_base.specs.Limits.{input_limit};
 ghost use Rattle.scfs_schedule.specs.Grammar.{IsEvent, IsHeader, event_of, words_of};
 ghost use Rattle.scfs_schedule.specs.Reading.{read};
 ghost use Rattle.scfs_schedule.specs.Text.{event_text};
 ghost use Rattle.scfs_schedule.specs.Written.{AllMayStand, AreAgents, IsInRange, schedule_text};
-ghost use Rattle.scfs_schedule.specs.declared.limits.TheConstants.{INPUT_LIMIT};
 ghost use Rattle.scfs_schedule.specs.declared.types.Ending.TheVariants as endings;
 ghost use Rattle.scfs_schedule.specs.declared.types.Event.{Event};
 
@@ -28,6 +28,6 @@ pub fn events_have_one_spelling(header: &Header, first: &Event, second: &Event)
 /// A text of a header and of events, each in form and within the limits, is read as that header and these events.
 pub fn written_texts_are_read(script: bool, header: &Header, events: &[Event])
     ensures { IsHeader header.now → AreAgents header.now.agents → AllMayStand script header.now events.now →
-        length (schedule_text header.now events.now) ≤ INPUT_LIMIT →
+        length (schedule_text header.now events.now) ≤ input_limit →
         read script (schedule_text header.now events.now) ≡ record { header = Some header.now; events = events.now; ending = endings.Ended } }
 {}

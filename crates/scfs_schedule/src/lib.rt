@@ -9,6 +9,7 @@ mod held;
 mod laws;
 mod limits;
 mod lines;
+mod phrases;
 mod progress;
 mod reader;
 mod spelling;

@@ -1,9 +1,9 @@
 ghost use Rattle.std.specs.Prelude.{◌≡◌, ℕ, ◌+◌, ◌<◌, ◌≤◌, List, [], ◌++◌, length, Some, None, IfOk, IfErr, OnErr, OnOk, IsSome};
+ghost use Rattle.scfs_base.specs.Limits.{input_limit, line_limit};
 ghost use Rattle.scfs_schedule.specs.Holding.{HoldsNoLine};
 ghost use Rattle.scfs_schedule.specs.Lines.{EndsBehindHeader, Finds, Goes};
 ghost use Rattle.scfs_schedule.specs.Places.{IsBehind, IsPlace};
 ghost use Rattle.scfs_schedule.specs.Reading.{unread, gives, Gives, IsDrained, stop_of};
-ghost use Rattle.scfs_schedule.specs.declared.limits.TheConstants.{INPUT_LIMIT, LINE_LIMIT};
 
 use crate::grammar::said;
 use crate::held::Held;
@@ -83,7 +83,7 @@ impl Reader {
         requires in_range { IsPlace place }
         requires open { self.old.ending ≡ None }
         requires numbered { IsBehind place (self.old.lines + 1) }
-        requires counted { self.old.lines + (length self.old.rest + self.old.room) < INPUT_LIMIT }
+        requires counted { self.old.lines + (length self.old.rest + self.old.room) < input_limit }
         ensures { self.new ≡ record self.old { place = place; lines = self.old.lines + 1 } }
     {
         self.place = place;
@@ -94,7 +94,7 @@ impl Reader {
     fn pass_line(&mut self)
         requires open { self.old.ending ≡ None }
         requires numbered { IsBehind self.old.place (self.old.lines + 1) }
-        requires counted { self.old.lines + (length self.old.rest + self.old.room) < INPUT_LIMIT }
+        requires counted { self.old.lines + (length self.old.rest + self.old.room) < input_limit }
         ensures { self.new ≡ record self.old { lines = self.old.lines + 1 } }
     {
         self.lines += 1;
@@ -103,7 +103,7 @@ impl Reader {
     /// Ends the text with the line just taken off.
     fn end_with(&mut self, ending: Ending)
         requires place { EndsBehindHeader (Some ending) self.old.place }
-        requires counted { self.old.lines + (length self.old.rest + self.old.room) < INPUT_LIMIT }
+        requires counted { self.old.lines + (length self.old.rest + self.old.room) < input_limit }
         ensures { self.new ≡ record self.old { lines = self.old.lines + 1; ending = Some ending } }
     {
         self.lines += 1;
@@ -158,7 +158,7 @@ impl Reader {
 
     /// Stops the reader at the line just taken off, which is not allowed.
     fn stop_bad(&mut self, kind: BadKind) -> Stop
-        requires { self.old.lines + (length self.old.rest + self.old.room) < INPUT_LIMIT }
+        requires { self.old.lines + (length self.old.rest + self.old.room) < input_limit }
         ensures stop { result ≡ Stop.Bad (record { line = self.old.lines + 1; kind = kind }) }
         ensures ending { self.new ≡ record self.old { lines = self.old.lines + 1; ending = Some (Ending.Stopped result) } }
     {
@@ -183,7 +183,7 @@ impl Reader {
     fn wait(&mut self) -> Result<Option<Item>, Stop>
         requires open { self.old.ending ≡ None }
         requires no_line { HoldsNoLine self.old.rest }
-        requires short { length self.old.rest ≤ LINE_LIMIT }
+        requires short { length self.old.rest ≤ line_limit }
         ensures { Gives result self.old self.new }
     {
         if self.held.is_longer() {

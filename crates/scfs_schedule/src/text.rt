@@ -1,7 +1,8 @@
 ghost use Rattle.std.specs.Prelude.{◌≡◌, ◌++◌, OnOk, OnErr, Some};
 ghost use Rattle.scfs_schedule.specs.Text.{refusal_text, kind_text, how_text, source_text, sum_text, call_text, event_text, event_line, line_text, numbered};
 
-use crate::spelling::{AnswerText, HexText, HexWord, PathWord, RequestWord, UploadWord};
+use crate::phrases::phrase_of;
+use crate::spelling::{AnswerText, HexText, HexWord, PathWord};
 use crate::{Call, Event, How, Kind, Line, Refusal, Src, Sum};
 use scfs_base::{Bytes, Memory};
 use std::alloc::Global;
@@ -161,139 +162,7 @@ impl fmt::Display for Line {
     ghost output = { λ it. Some (line_text it) };
 
     fn fmt<W: fmt::Write>(&self, f: &mut fmt::Formatter<W>) -> fmt::Result {
-        match self {
-            Line::Skip => write!(f, "skip"),
-            Line::Gone(request) => write!(f, "gone {}", RequestWord(request)),
-            Line::Looked(request) => write!(f, "looked {}", RequestWord(request)),
-            Line::Changed(request) => write!(f, "changed {}", RequestWord(request)),
-            Line::Locked(request, file, until) => write!(
-                f,
-                "locked {} {} {until}",
-                RequestWord(request),
-                file.0
-            ),
-            Line::Committed(request, file, version) => write!(
-                f,
-                "committed {} {} {version}",
-                RequestWord(request),
-                file.0
-            ),
-            Line::Renewed(request, until) => write!(f, "renewed {} {until}", RequestWord(request)),
-            Line::Unlocked(request, locks) => write!(
-                f,
-                "unlocked {} {locks}",
-                RequestWord(request)
-            ),
-            Line::Dropped(request, versions) => write!(
-                f,
-                "dropped {} {versions}",
-                RequestWord(request)
-            ),
-            Line::Forgot(request, tuples) => write!(f, "forgot {} {tuples}", RequestWord(request)),
-            Line::Refused(request, why) => write!(f, "refused {} {why}", RequestWord(request)),
-            Line::Did(cloud, request, sum) => write!(
-                f,
-                "did {cloud} {} {sum}",
-                RequestWord(request)
-            ),
-            Line::Gave(cloud, request, sum) => write!(
-                f,
-                "gave {cloud} {} {sum}",
-                RequestWord(request)
-            ),
-            Line::Put(request, cloud, name, length, digest) => write!(
-                f,
-                "put {} {cloud} {} {length} {}",
-                RequestWord(request),
-                PathWord(name.as_slice()),
-                HexWord(&digest.0)
-            ),
-            Line::Get(request, cloud, name) => write!(
-                f,
-                "get {} {cloud} {}",
-                RequestWord(request),
-                PathWord(name.as_slice())
-            ),
-            Line::Del(request, cloud, name) => write!(
-                f,
-                "del {} {cloud} {}",
-                RequestWord(request),
-                PathWord(name.as_slice())
-            ),
-            Line::Ls(request, cloud, prefix) => write!(
-                f,
-                "ls {} {cloud} {}",
-                RequestWord(request),
-                PathWord(prefix.as_slice())
-            ),
-            Line::Saw(request, file, version) => write!(
-                f,
-                "saw {} {} {version}",
-                RequestWord(request),
-                file.0
-            ),
-            Line::Opened(agent, session, version, source, length) => write!(
-                f,
-                "opened {agent} {session} {version} {source} {length}"
-            ),
-            Line::OkMkdir(agent, file) => write!(f, "ok {agent} mkdir {}", file.0),
-            Line::OkCreate(agent, file) => write!(f, "ok {agent} create {}", file.0),
-            Line::OkRmdir(agent) => write!(f, "ok {agent} rmdir"),
-            Line::OkUnlink(agent) => write!(f, "ok {agent} unlink"),
-            Line::OkRename(agent) => write!(f, "ok {agent} rename"),
-            Line::OkSync(agent) => write!(f, "ok {agent} sync"),
-            Line::OkStat(agent, kind, file, version, length, how) => write!(
-                f,
-                "ok {agent} stat {kind} {} {version} {length} {how}",
-                file.0
-            ),
-            Line::Name(agent, name) => write!(f, "name {agent} {}", PathWord(name.as_slice())),
-            Line::OkList(agent, count, how) => write!(f, "ok {agent} list {count} {how}"),
-            Line::Data(agent, session, bytes) => write!(
-                f,
-                "data {agent} {session} {}",
-                HexText(bytes.as_slice())
-            ),
-            Line::OkWrite(agent, session, length) => write!(
-                f,
-                "ok {agent} write {session} {length}"
-            ),
-            Line::OkTruncate(agent, session, length) => write!(
-                f,
-                "ok {agent} truncate {session} {length}"
-            ),
-            Line::OkClose(agent, session) => write!(f, "ok {agent} close {session}"),
-            Line::Closed(agent, session, version) => write!(
-                f,
-                "closed {agent} {session} {version}"
-            ),
-            Line::Queued(agent, session) => write!(f, "queued {agent} {session}"),
-            Line::Done(agent, session, version) => write!(f, "done {agent} {session} {version}"),
-            Line::Lost(agent, session) => write!(f, "lost {agent} {session}"),
-            Line::Version(agent, version, length, upload, digest) => write!(
-                f,
-                "version {agent} {version} {length} {} {}",
-                UploadWord(upload),
-                HexWord(&digest.0)
-            ),
-            Line::OkVersions(agent, count) => write!(f, "ok {agent} versions {count}"),
-            Line::OkCollect(agent, count) => write!(f, "ok {agent} collect {count}"),
-            Line::OkPurge(agent, versions, uploads) => write!(
-                f,
-                "ok {agent} purge {versions} {uploads}"
-            ),
-            Line::No(agent, why) => write!(f, "no {agent} {why}"),
-            Line::Lapsed(agent, session) => write!(f, "lapsed {agent} {session}"),
-            Line::Saved(agent, count) => write!(f, "saved {agent} {count}"),
-            Line::Crashed(agent) => write!(f, "crashed {agent}"),
-            Line::Started(agent, incarnation) => write!(f, "started {agent} {incarnation}"),
-            Line::Ready(agent) => write!(f, "ready {agent}"),
-            Line::Adopted(agent, incarnation, count) => write!(
-                f,
-                "adopted {agent} {incarnation} {count}"
-            ),
-            Line::AdoptedNone(agent) => write!(f, "adopted {agent} none"),
-        }
+        write!(f, "{}", phrase_of(self))
     }
 }
 

@@ -1,4 +1,5 @@
 ghost use Rattle.std.specs.Prelude.{◌≡◌, ◌+◌, ◌≤◌, length, IfOk, OnOk};
+ghost use Rattle.scfs_base.specs.Limits.{contents_limit};
 ghost use Rattle.scfs_session.specs.Contents.{resized, written, bytes_from};
 
 use scfs_base::{Bytes, Memory};
@@ -28,19 +29,19 @@ pub struct Contents {
 
 impl Model for Contents {
     ghost use Rattle.std.specs.Prelude.{List, ℕ, length, ◌≤◌};
-    ghost use Rattle.scfs_session.specs.declared.contents.TheConstants.{CONTENTS_LIMIT};
+    ghost use Rattle.scfs_base.specs.Limits.{contents_limit};
 
     ghost Value = { List ℕ };
 
     ghost view = { λ contents. contents.bytes };
 
-    ghost invariant = { λ contents. length contents.bytes ≤ CONTENTS_LIMIT };
+    ghost invariant = { λ contents. length contents.bytes ≤ contents_limit };
 }
 
 impl Contents {
     /// These bytes as a working copy.
     pub fn new(bytes: Bytes) -> Contents
-        requires { length bytes ≤ CONTENTS_LIMIT }
+        requires { length bytes ≤ contents_limit }
         ensures { result ≡ bytes }
     {
         Contents { bytes }
@@ -72,7 +73,7 @@ impl Contents {
 
     /// Writes bytes from an offset on; an offset past the end is reached by zeros, and no bytes change nothing.
     pub fn write(&mut self, alloc: Global, offset: u64, bytes: &[u8]) -> Result<(), Memory>
-        requires { offset + length bytes.now ≤ CONTENTS_LIMIT }
+        requires { offset + length bytes.now ≤ contents_limit }
         ensures { OnOk result (self.new ≡ written self.old offset bytes.now) }
     {
         if bytes.is_empty() {
@@ -89,7 +90,7 @@ impl Contents {
 
     /// Cuts the contents to a length, or fills them with zeros up to it.
     pub fn truncate(&mut self, size: u64) -> Result<(), Memory>
-        requires { size ≤ CONTENTS_LIMIT }
+        requires { size ≤ contents_limit }
         ensures { OnOk result (self.new ≡ resized self.old size) }
     {
         resize(&mut self.bytes, size as usize)

@@ -1,4 +1,5 @@
 ghost use Rattle.std.specs.Prelude.{◌≡◌, ◌≤◌, [], None, Some, length, IfOk, OnOk, MatchResult};
+ghost use Rattle.scfs_base.specs.Limits.{contents_limit};
 ghost use Rattle.scfs_session.specs.Open.{session_of, opened, ended, read_answer, after_write, after_truncate, change_answer, sessions_after};
 
 use crate::CONTENTS_LIMIT;
@@ -79,7 +80,7 @@ impl Sessions {
         writes: bool,
         contents: Bytes,
     ) -> Result<(), Memory>
-        requires short { length contents ≤ CONTENTS_LIMIT }
+        requires short { length contents ≤ contents_limit }
         ensures { OnOk result (self.new ≡ opened self.old session (record { file = id; base = base; writes = writes; contents = contents })) }
     {
         let added = Session {
@@ -157,7 +158,7 @@ impl Sessions {
         ensures answer { MatchResult result
             (λ left. session_of self.old session ≡ Some (record { file = left.id; base = left.base; writes = left.writes; contents = left.contents }))
             (λ refusal. (refusal ≡ Refusal.BadHandle) × (session_of self.old session ≡ None)) }
-        ensures short { IfOk result (λ left. length left.contents ≤ CONTENTS_LIMIT) }
+        ensures short { IfOk result (λ left. length left.contents ≤ contents_limit) }
         ensures after { self.new ≡ ended self.old session }
         ensures gone { session_of self.new session ≡ None }
     {

@@ -1,4 +1,5 @@
 ghost use Rattle.std.specs.Prelude.{◌≤◌, length};
+ghost use Rattle.scfs_base.specs.Limits.{contents_limit};
 
 use crate::{CONTENTS_LIMIT, Sessions};
 use scfs_base::{Bytes, FileId, Memory};
@@ -16,7 +17,7 @@ enum Try<'a> {
 
 /// Session 1 of file 7, from its version 3, with these contents.
 fn opened(alloc: Global, writes: bool, contents: &[u8]) -> Result<Sessions, Memory>
-    requires { length contents.now ≤ CONTENTS_LIMIT }
+    requires { length contents.now ≤ contents_limit }
 {
     let contents = Bytes::from_slice(alloc, contents)?;
     let mut sessions = Sessions::new(alloc)?;

@@ -3,3 +3,4 @@ pub mod Peeling
 pub mod RowLemmas
 pub mod ShareLemmas
 pub mod FittedLemmas
+pub mod JoinLemmas

@@ -1,17 +1,18 @@
 //! What some of the shares of a key tell: f + 1 the key, f the coefficients of any key.
 
-ghost use Rattle.std.specs.Prelude.{◌≡◌, ◌≢◌, ℕ, ◌+◌, ◌≤◌, ◌<◌, List, [], ◌∷◌, length, take, bit_xor, slice_index};
+ghost use Rattle.std.specs.Prelude.{◌≡◌, ◌≢◌, ℕ, ◌+◌, ◌≤◌, ◌<◌, List, [], ◌∷◌, length, map, replicate, take, bit_xor, slice_index};
 ghost use Rattle.std.specs.List.{All};
 ghost use Rattle.scfs_base.specs.declared.naming.Coefficients.{Coefficients};
 ghost use Rattle.scfs_gf256.specs.Field.{times};
-ghost use Rattle.scfs_gf256.specs.Polynomials.{AreDistinct, IsOnlyFit};
-ghost use Rattle.scfs_gf256.specs.Interpolation.{coefficients_of};
-ghost use Rattle.scfs_shamir.specs.Recovery.{points_of, bytes_at, joining_polynomial, joined_byte, joined};
+ghost use Rattle.scfs_gf256.specs.Rows.{row_sum, scaled, add_multiples};
+ghost use Rattle.scfs_gf256.specs.Polynomials.{AreBytes, AreDistinct, IsOnlyFit};
+ghost use Rattle.scfs_gf256.specs.Interpolation.{coefficients_of, lagrange_factors};
+ghost use Rattle.scfs_shamir.specs.Recovery.{points_of, bytes_at, joining_polynomial, joined};
 ghost use Rattle.scfs_shamir.specs.Recovery.{fitted_polynomial, IsPoint, IsRow, AreRows, AreSharesOf, IsOnlySharing};
 
 use crate::sharing::Share;
 use scfs_base::Coefficients;
-use scfs_gf256::{add, interpolate_at, inv, mul};
+use scfs_gf256::{add, factor_at, interpolate_at, inv, mul, mul_row};
 
 /// The key of which these are f + 1 shares (f at most 3) of different points. Of any such shares it is, byte by byte,
 /// the value at 0 of the only polynomial of f + 1 coefficients that has their bytes at their points.
@@ -25,25 +26,33 @@ pub fn join(f: u8, shares: &[Share]) -> [u8; 32]
     ensures key { (key : List ℕ) (coefficients : Coefficients) → IsRow key → AreRows coefficients
         → AreSharesOf f key coefficients shares.now → result ≡ key }
 {
+    let points = points(shares);
+    joined(&points[..=usize::from(f)], shares)
+}
+
+/// That key, where the points are those of the shares.
+fn joined(points: &[u8], shares: &[Share]) -> [u8; 32]
+    requires points { points.now ≡ points_of shares.now }
+    requires distinct { AreDistinct points.now }
+    ensures points { AreBytes points.now }
+    ensures rows { All (λ share. IsRow share.bytes) shares.now }
+    ensures sum { result ≡ add_multiples (replicate 32 0) (lagrange_factors points.now 0) (map (λ share. share.bytes) shares.now) }
+{
     let mut key = [0; 32];
-    for (place, byte) in key.iter_mut().enumerate() {
-        *byte = join_byte(f, shares, place);
+    // What a share counts for the value at 0 is the same for each of its bytes.
+    for place in 0..shares.len() {
+        let factor = factor_at(points, place, 0);
+        add_share(factor, &shares[place].bytes, &mut key);
     }
     key
 }
 
-/// A byte of that key.
-fn join_byte(f: u8, shares: &[Share], place: usize) -> u8
-    requires high { f ≤ 3 }
-    requires count { length shares.now ≡ f + 1 }
-    requires distinct { AreDistinct (points_of shares.now) }
-    requires inside { place < 32 }
-    ensures fit { IsOnlyFit (joining_polynomial shares.now place) (points_of shares.now) (bytes_at shares.now place) }
-    ensures value { result ≡ joined_byte shares.now place }
+/// Adds the bytes of a share, times a factor, to the key.
+fn add_share(factor: u8, share: &[u8; 32], key: &mut [u8; 32])
+    ensures row { IsRow share.now }
+    ensures sum { key.new ≡ row_sum key.old (scaled factor share.now) }
 {
-    let points = points(shares);
-    let bytes = bytes_at(shares, place);
-    interpolate_at(&points[..=usize::from(f)], &bytes[..=usize::from(f)], 0)
+    mul_row(factor, share.as_slice(), key.as_mut_slice());
 }
 
 /// The only coefficients under which the split of this key gives these f shares (f from 1 to 3) of different points.

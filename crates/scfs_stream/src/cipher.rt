@@ -23,7 +23,8 @@ pub fn xor_stream(key: &[u8; 32], bytes: &mut [u8])
     add_pad(&mut bytes[4 * words..], pad);
 }
 
-// Adds the pad to at most four bytes.
+// Adds the pad to at most four bytes. Put in place at both calls, so that a whole word is one sum.
+#[inline(always)]
 fn add_pad(bytes: &mut [u8], pad: [u8; 4])
     requires { length bytes.old ≤ 4 }
     ensures { EachIndex bytes.new (λ k.

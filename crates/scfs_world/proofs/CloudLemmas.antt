@@ -1,4 +1,5 @@
 use Rattle.std.proofs.Common.{◌≡◌, ℕ, ◌+◌, ◌<◌, ◌≤◌, List, [], ◌∷◌, length, refl, sym, ap, ◌∙◌, subst, Option, Some, None, false, cond, arith, add-one}
+use Rattle.scfs_base.specs.Limits.{carried_limit}
 use Rattle.scfs_schedule.specs.declared.types.Event.{Event}
 use Rattle.scfs_base.specs.declared.cloud.CloudAnswer.{CloudAnswer}
 use Rattle.scfs_schedule.specs.declared.types.Event.TheVariants as events
@@ -8,7 +9,6 @@ use Rattle.scfs_schedule.specs.declared.types.Line.TheVariants as lines
 use Rattle.scfs_net.specs.declared.messages.Asked as nets
 use Rattle.scfs_net.specs.declared.messages.Given.{Given}
 use Rattle.scfs_net.specs.Queues.{NetState, moved}
-use Rattle.scfs_net.specs.declared.messages.TheConstants.{CARRIED_LIMIT}
 use Rattle.scfs_model.specs.Format.{Setup}
 use Rattle.scfs_model.specs.Lists.{first_of}
 use Rattle.scfs_model.specs.UnitFormat.{under}
@@ -61,7 +61,7 @@ module _ (event : Event) (shown : Setup → Option Message → List Line) (it : 
       ap (λ (e : Effect). record { files = e.files; counted = counted_after s (actual s past) past event (message_of (net s past) event) }) (entry_effect s past (message_of (net s past) event))
       ∙ ap (λ counted. record { files = (actual s past).files; counted = counted }) (it.counts s (actual s past) past (message_of (net s past) event))
 
-  pub clouds_step : (old new : WorldState) (n : NetState) (lines : List Line) → new ≡ record old { net = n } → n ≡ moved_by event old.net → (moved_by event old.net).carried ≤ CARRIED_LIMIT
+  pub clouds_step : (old new : WorldState) (n : NetState) (lines : List Line) → new ≡ record old { net = n } → n ≡ moved_by event old.net → (moved_by event old.net).carried ≤ carried_limit
       → ((header : Header) → lines ≡ shown (under header) (message_of old.net event)) → StepsUnasked old (counted new) event lines
   clouds_step old new n lines is moved carried says header past stands =
       let s = under header in
@@ -83,14 +83,14 @@ module _ (event : Event) (shown : Setup → Option Message → List Line) (it : 
         says header ∙ ap (λ m. shown s (message_of m event)) stands.clouds ∙ sym (ap (λ (e : Effect). e.lines) (entry_effect s past (message_of (net s past) event))),
         subst (λ y. StandsAt (counted new) header y (e ∷ past)) (sym (actual_after s past))
             (subst (λ w. StandsAt (counted w) header x (e ∷ past)) (sym is) after),
-        subst (λ (m : NetState). m.carried ≤ CARRIED_LIMIT) (ap (moved_by event) stands.clouds ∙ sym (net_after s past)) carried,
+        subst (λ (m : NetState). m.carried ≤ carried_limit) (ap (moved_by event) stands.clouds ∙ sym (net_after s past)) carried,
       )
 
-  pub clouds_too_large : (old : WorldState) → CARRIED_LIMIT < (moved_by event old.net).carried → IsTooLargeUnasked old event
+  pub clouds_too_large : (old : WorldState) → carried_limit < (moved_by event old.net).carried → IsTooLargeUnasked old event
   clouds_too_large old more header past stands =
       let s = under header in (
         it.unasked s (actual s past),
-        subst (λ (m : NetState). CARRIED_LIMIT < m.carried) (ap (moved_by event) stands.clouds ∙ sym (net_after s past)) more,
+        subst (λ (m : NetState). carried_limit < m.carried) (ap (moved_by event) stands.clouds ∙ sym (net_after s past)) more,
       )
 
 -- the events of the clouds

@@ -4,13 +4,13 @@ use Rattle.std.specs.Prelude.{slice_get, slice_set}
 use Rattle.std.proofs.lemmas.List.{map-append, set-set}
 use Rattle.std.proofs.lemmas.List.Elements.{All-weaker}
 use Rattle.std.proofs.lemmas.Option.{same_Some}
+use Rattle.scfs_base.specs.Limits.{carried_limit}
 use Rattle.scfs_schedule.specs.Grammar.{IsHeader}
 use Rattle.scfs_schedule.specs.declared.types.Event.{Event}
 use Rattle.scfs_schedule.specs.declared.types.Header.{Header}
 use Rattle.scfs_schedule.specs.declared.types.Line.{Line}
 use Rattle.scfs_policy.specs.declared.rank.RankFacts.{RankFacts}
 use Rattle.scfs_net.specs.Queues.{NetState}
-use Rattle.scfs_net.specs.declared.messages.TheConstants.{CARRIED_LIMIT}
 use Rattle.scfs_model.specs.Lists.{if_some}
 use Rattle.scfs_model.specs.Names.{same_request}
 use Rattle.scfs_model.specs.UnitFormat.{under}
@@ -132,11 +132,11 @@ module _ {allows : RankFacts → ℕ → Type 0} (old mid : WorldState) (a : ℕ
       ∙ sym (ap (λ (E : Effect). all_asked s (moved_by event (net s past)) E.sent) (b.effect d.ranks))
 
   -- too many bytes would be carried
-  pub comes_too_large : CARRIED_LIMIT < (net_with mid.net it.given).carried
-      → (ranks : List ℕ) × Answers allows (facts_asked (under header) (actual (under header) past) event) ranks × (CARRIED_LIMIT < carried_after (under header) past event ranks)
+  pub comes_too_large : carried_limit < (net_with mid.net it.given).carried
+      → (ranks : List ℕ) × Answers allows (facts_asked (under header) (actual (under header) past) event) ranks × (carried_limit < carried_after (under header) past event ranks)
   comes_too_large more =
       let d = did_react in
-      (d.ranks, subst (λ facts. Answers allows facts d.ranks) (sym b.facts) d.answers, subst (λ (n : NetState). CARRIED_LIMIT < n.carried) (net_comes d) more)
+      (d.ranks, subst (λ facts. Answers allows facts d.ranks) (sym b.facts) d.answers, subst (λ (n : NetState). carried_limit < n.carried) (net_comes d) more)
 
   -- its entry, by what the agent did
   entry_comes : (d : DidReact allows old a event before header past b.p.member b.known it.is it.given)
@@ -201,7 +201,7 @@ module _ {allows : RankFacts → ℕ → Type 0} (old mid new : WorldState) (a :
   pub comes_stands : (ranks : List ℕ) × Answers allows (facts_asked (under header) (actual (under header) past) event) ranks
       × (shown ≡ made (under header) past event (message_of (net (under header) past) event) ranks)
       × Stands (counted new) header (entry_after (under header) past event ranks ∷ past)
-      × (carried_after (under header) past event ranks ≤ CARRIED_LIMIT)
+      × (carried_after (under header) past event ranks ≤ carried_limit)
   comes_stands =
       let s = under header in
       let x = actual s past in
@@ -264,5 +264,5 @@ module _ {allows : RankFacts → ℕ → Type 0} (old mid new : WorldState) (a :
         done.lines header ∙ ap (λ (g : List Output). before ++ lines_out s g) d.given_is ∙ ap (λ l. before ++ l) (lines_reacted s r)
             ∙ sym (append_assoc before r.says (request_lines s r.sent)) ∙ sym (ap (λ (E : Effect). E.lines) (b.effect d.ranks)),
         subst (λ y. StandsAt (counted new) header y (e ∷ past)) (sym actual_is) (subst (λ w. StandsAt (counted w) header x' (e ∷ past)) (sym new_is) after),
-        subst (λ (k : NetState). k.carried ≤ CARRIED_LIMIT) (ap (λ (w : WorldState). w.net) new_is ∙ net_is) done.carried,
+        subst (λ (k : NetState). k.carried ≤ carried_limit) (ap (λ (w : WorldState). w.net) new_is ∙ net_is) done.carried,
       )

@@ -3,6 +3,7 @@ use Rattle.std.proofs.Common.{◌≡◌, ◌≢◌, ℕ, zero, suc, ◌+◌, ◌
 use Rattle.std.specs.Prelude.{slice_get, slice_set}
 use Rattle.std.proofs.lemmas.Bool.{eq-eqb, ne_eqb}
 use Rattle.std.proofs.lemmas.Option.{slice_get_past, slice_get_within}
+use Rattle.scfs_base.specs.Limits.{carried_limit}
 use Rattle.scfs_base.specs.declared.naming.RequestNo.{RequestNo}
 use Rattle.scfs_base.specs.declared.cloud.CloudAnswer.{CloudAnswer}
 use Rattle.scfs_schedule.specs.declared.types.Event.TheVariants as events
@@ -11,7 +12,6 @@ use Rattle.scfs_schedule.specs.declared.types.Line.{Line}
 use Rattle.scfs_schedule.specs.declared.types.Line.TheVariants as lines
 use Rattle.scfs_policy.specs.declared.rank.RankFacts.{RankFacts}
 use Rattle.scfs_net.specs.declared.messages.Given.{Given}
-use Rattle.scfs_net.specs.declared.messages.TheConstants.{CARRIED_LIMIT}
 use Rattle.scfs_net.specs.Queues.{NetState, cloud_at, at_cloud, taken}
 use Rattle.scfs_model.specs.Lists.{if_some, first_of, change_at}
 use Rattle.scfs_model.specs.Format.{Setup}
@@ -181,7 +181,7 @@ module _ (old : WorldState) (c : ℕ) (given : List Line) (world : IsWorld old)
         tt,
         sym (ap (λ (E : Effect). E.lines) done.0),
         subst (λ y. StandsAt (counted mid) header y (e ∷ past)) (sym actual_is) after,
-        subst (λ (k : NetState). k.carried ≤ CARRIED_LIMIT) moved world.carried,
+        subst (λ (k : NetState). k.carried ≤ carried_limit) moved world.carried,
       )
 
 -- no answer waits

@@ -4,6 +4,7 @@ use Rattle.std.specs.List.{All}
 use Rattle.std.proofs.lemmas.List.Elements.{All-nil, All-cons, All-append, All-contains, All-replicate}
 use Rattle.std.proofs.lemmas.Bool.{both_ways}
 use Rattle.std.proofs.lemmas.List.Folds.{list_any_none}
+use Rattle.scfs_base.specs.Limits.{contents_limit}
 use Rattle.scfs_base.specs.declared.naming.RequestNo.{RequestNo}
 use Rattle.scfs_base.specs.declared.cloud.CloudAnswer.{CloudAnswer}
 use Rattle.scfs_schedule.specs.declared.types.Call.{Call}
@@ -13,7 +14,6 @@ use Rattle.scfs_schedule.specs.declared.types.Event.TheVariants as events
 use Rattle.scfs_schedule.specs.declared.types.Line.{Line}
 use Rattle.scfs_schedule.specs.declared.types.Line.TheVariants as lines
 use Rattle.scfs_schedule.specs.declared.types.Refusal.TheVariants as refusals
-use Rattle.scfs_session.specs.declared.contents.TheConstants.{CONTENTS_LIMIT}
 use Rattle.scfs_session.specs.declared.sessions.Session.{Session}
 use Rattle.scfs_session.specs.Contents.{bytes_from}
 use Rattle.scfs_session.specs.Open.{session_of, read_answer}
@@ -122,7 +122,7 @@ else_is_read holds event other quiet = tt
 read_shows : (offset count : ℕ) (shown : List ℕ) (there : Option Session) (bytes : List ℕ)
     → ((y : Session) → there ≡ Some y → bytes_from y.contents offset count ≡ shown) → read_answer there offset count ≡ Ok bytes → bytes ≡ shown
 read_shows offset count shown None bytes same is = cc
-read_shows offset count shown (Some y) bytes same is = by (nat_lt CONTENTS_LIMIT count) is
+read_shows offset count shown (Some y) bytes same is = by (nat_lt contents_limit count) is
   where
     by : (b : Bool) → (if b then Err refusals.TooLong else Ok (bytes_from y.contents offset count)) ≡ Ok bytes → bytes ≡ shown
     by true e = cc

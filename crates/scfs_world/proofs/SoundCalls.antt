@@ -5,6 +5,7 @@ use Rattle.std.specs.BTreeMap.{is_at}
 use Rattle.std.specs.Ordering.{nat_cmp}
 use Rattle.std.proofs.lemmas.List.Elements.{All-nil, All-cons, All-push}
 use Rattle.std.proofs.lemmas.Map.Views.{IfSome-lookup_from_All, All-values-insert_entry, All-values-set_value, All-map-remove_entry}
+use Rattle.scfs_base.specs.Limits.{contents_limit}
 use Rattle.scfs_schedule.specs.declared.types.Call.{Call}
 use Rattle.scfs_schedule.specs.declared.types.Call.TheVariants as calls
 use Rattle.scfs_schedule.specs.declared.types.Line.{Line}
@@ -12,7 +13,6 @@ use Rattle.scfs_schedule.specs.declared.types.Line.TheVariants as lines
 use Rattle.scfs_schedule.specs.declared.types.Refusal.{Refusal}
 use Rattle.scfs_schedule.specs.declared.types.Refusal.TheVariants as refusals
 use Rattle.scfs_session.specs.declared.sessions.Session.{Session}
-use Rattle.scfs_session.specs.declared.contents.TheConstants.{CONTENTS_LIMIT}
 use Rattle.scfs_session.specs.Contents.{resized, written}
 use Rattle.scfs_session.specs.Open.{OpenSessions, session_of, opened, ended, read_answer, change_refusal, unless, changed, after_write, after_truncate}
 use Rattle.scfs_model.specs.Lists.{if_some}
@@ -73,7 +73,7 @@ allowed_by true false h = refl
 allowed_by false long h = not_none refusals.ReadOnly h
 
 allowed : (y : Session) (end : ℕ) → change_refusal y end ≡ None → end ≤ 65536
-allowed y end h = ltb-false CONTENTS_LIMIT end (allowed_by y.writes (nat_lt CONTENTS_LIMIT end) h)
+allowed y end h = ltb-false contents_limit end (allowed_by y.writes (nat_lt contents_limit end) h)
 
 changed_fits : (there : Option Session) (end : ℕ) (change : List ℕ → List ℕ) → IfSome there IsSession
     → ((contents : List ℕ) → IsContents contents → end ≤ 65536 → IsContents (change contents)) → IsChanged (changed there end change)

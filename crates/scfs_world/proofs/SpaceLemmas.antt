@@ -3,6 +3,7 @@ use Rattle.std.proofs.Common.{◌≡◌, ℕ, zero, suc, Contains, ◌+◌, ◌*
 use Rattle.std.specs.Prelude.{slice_get, slice_set}
 use Rattle.std.proofs.lemmas.List.{map-append}
 use Rattle.std.proofs.lemmas.Option.{same_Some}
+use Rattle.scfs_base.specs.Limits.{carried_limit}
 use Rattle.scfs_schedule.specs.Grammar.{IsHeader}
 use Rattle.scfs_schedule.specs.declared.types.Event.{Event}
 use Rattle.scfs_schedule.specs.declared.types.Event.TheVariants as events
@@ -12,7 +13,6 @@ use Rattle.scfs_schedule.specs.declared.types.Line.TheVariants as lines
 use Rattle.scfs_tuples.specs.After.{reply_of, left_after}
 use Rattle.scfs_tuples.specs.declared.types.Reply as tuples
 use Rattle.scfs_net.specs.Queues.{NetState, moved}
-use Rattle.scfs_net.specs.declared.messages.TheConstants.{CARRIED_LIMIT}
 use Rattle.scfs_anchor.specs.Tree.{Each}
 use Rattle.scfs_model.specs.Lists.{if_some, moved_back}
 use Rattle.scfs_model.specs.Format.{Setup}
@@ -57,7 +57,7 @@ later_is a = record { unasked = λ s x. refl; others = λ b message. refl; count
 
 module _ (event : Event) (it : IsOfSpace event) where
   -- by what the event does to the file map
-  pub space_steps : (old new : WorldState) (given : List Line) → old.net.carried ≤ CARRIED_LIMIT
+  pub space_steps : (old new : WorldState) (given : List Line) → old.net.carried ≤ carried_limit
       → ((header : Header) (past : History) → Stands old header past →
       (F : Files) × (actual_effect (under header) (actual (under header) past) past event (message_of (net (under header) past) event) [] ≡ leaving F given)
       × (net (under header) (entry_after (under header) past event [] ∷ past) ≡ net (under header) past
@@ -75,7 +75,7 @@ module _ (event : Event) (it : IsOfSpace event) where
         it.unasked s x,
         sym (ap (λ (E : Effect). E.lines) done.1),
         subst (λ y. StandsAt (counted new) header y (e ∷ past)) (sym actual_is) (done.2 net_is),
-        subst (λ (m : NetState). m.carried ≤ CARRIED_LIMIT) (stands.clouds ∙ sym net_is) carried,
+        subst (λ (m : NetState). m.carried ≤ carried_limit) (stands.clouds ∙ sym net_is) carried,
       )
 
   -- a world that is left as it was stands for the longer history

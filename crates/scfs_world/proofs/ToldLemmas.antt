@@ -3,6 +3,7 @@ use Rattle.std.proofs.Common.{◌≡◌, ℕ, ◌+◌, ◌<◌, ◌≤◌, List,
 use Rattle.std.specs.Prelude.{slice_get, slice_set}
 use Rattle.std.proofs.lemmas.Bool.{eq-eqb, ne_eqb}
 use Rattle.std.proofs.lemmas.Option.{same_Some}
+use Rattle.scfs_base.specs.Limits.{carried_limit}
 use Rattle.scfs_model.specs.Names.{upload_no}
 use Rattle.scfs_schedule.specs.declared.types.Event.TheVariants as events
 use Rattle.scfs_schedule.specs.declared.types.Header.{Header}
@@ -10,7 +11,6 @@ use Rattle.scfs_schedule.specs.declared.types.Line.{Line}
 use Rattle.scfs_schedule.specs.declared.types.Line.TheVariants as lines
 use Rattle.scfs_policy.specs.declared.rank.RankFacts.{RankFacts}
 use Rattle.scfs_net.specs.Queues.{NetState}
-use Rattle.scfs_net.specs.declared.messages.TheConstants.{CARRIED_LIMIT}
 use Rattle.scfs_anchor.specs.Tree.{Each}
 use Rattle.scfs_model.specs.Lists.{if_some}
 use Rattle.scfs_model.specs.Format.{Setup}
@@ -200,7 +200,7 @@ told_nothing allows old new a seat given world within there empty line same head
       subst (λ l. Answers allows l []) (sym facts) tt,
       line ∙ sym (ap (λ (E : Effect). E.lines) effect),
       subst (λ y. StandsAt (counted new) header y (e ∷ past)) (sym actual_is) (subst (λ w. StandsAt (counted w) header x (e ∷ past)) (sym same) after),
-      subst (λ (k : NetState). k.carried ≤ CARRIED_LIMIT) (stands.clouds ∙ sym net_is) world.carried,
+      subst (λ (k : NetState). k.carried ≤ carried_limit) (stands.clouds ∙ sym net_is) world.carried,
     )
 
 -- the same of a world that the code sees otherwise

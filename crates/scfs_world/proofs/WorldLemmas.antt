@@ -4,13 +4,13 @@ use Rattle.std.specs.Prelude.{slice_get, slice_set}
 use Rattle.std.proofs.lemmas.List.{set-set, set-get_or}
 use Rattle.std.proofs.lemmas.List.Elements.{All-weaker, All-set, All-head, All-tail, All-append, All-drop, All-take}
 use Rattle.std.proofs.lemmas.Option.{slice_get_read, slice_get_within, get_or_from_slice_get}
+use Rattle.scfs_base.specs.Limits.{carried_limit}
 use Rattle.scfs_tuples.specs.Steps.{IsStep}
 use Rattle.scfs_tuples.specs.declared.types.Tuple.{Tuple}
 use Rattle.scfs_schedule.specs.declared.types.Header.{Header}
 use Rattle.scfs_schedule.specs.declared.types.Line.{Line}
 use Rattle.scfs_policy.specs.declared.rank.RankFacts.{RankFacts}
 use Rattle.scfs_net.specs.Queues.{NetState}
-use Rattle.scfs_net.specs.declared.messages.TheConstants.{CARRIED_LIMIT}
 use Rattle.scfs_model.specs.UnitFormat.{under}
 use Rattle.scfs_model.specs.Lists.{moved_back}
 use Rattle.scfs_agent.specs.Reacting.{FitsOutput, Reacts}
@@ -97,7 +97,7 @@ given_from old a i j input was is seat given first second agents desks read seen
 
 pub done_from : {allows : RankFacts → ℕ → Type 0} (old w : WorldState) (a i j : ℕ) (input : Input) (before shown : List Line) (it : IsGiven allows a input old) (end : DeskState) (n : NetState)
     → old ≡ w → i ≡ a → j ≡ a → end ≡ desk_with it.desk it.given → n ≡ net_with old.net it.given → ((header : Header) → shown ≡ before ++ lines_out (under header) it.given)
-    → n.carried ≤ CARRIED_LIMIT
+    → n.carried ≤ carried_limit
     → IsDone allows a input before w (record old { agents = set old.agents i it.is; desks = set old.desks j end; net = n }) shown
 done_from {allows} old w a i j input before shown it end n viewed first second desk_is net_is says carried =
     subst (λ v. IsDone allows a input before v (record old { agents = set old.agents i it.is; desks = set old.desks j end; net = n }) shown) viewed (record {
@@ -112,7 +112,7 @@ done_from {allows} old w a i j input before shown it end n viewed first second d
     })
 
 pub too_much_from : {allows : RankFacts → ℕ → Type 0} (old w : WorldState) (a : ℕ) (input : Input) → old ≡ w → (it : IsGiven allows a input old)
-    → CARRIED_LIMIT < (net_with old.net it.given).carried → IsTooMuch allows a input w
+    → carried_limit < (net_with old.net it.given).carried → IsTooMuch allows a input w
 too_much_from {allows} old w a input viewed it more = subst (λ v. IsTooMuch allows a input v) viewed (record { it = it; more = more })
 
 -- there is a world after an agent's input
@@ -137,7 +137,7 @@ keeps_input old new a input before shown world done =
         agents = length-set old.agents a it.is ∙ world.agents;
         desks = length-set old.desks a (desk_with it.desk it.given) ∙ world.desks;
         clouds = length-net_with old.net it.given ∙ world.clouds;
-        carried = subst (λ (w : WorldState). w.net.carried ≤ CARRIED_LIMIT) done.after done.carried;
+        carried = subst (λ (w : WorldState). w.net.carried ≤ carried_limit) done.after done.carried;
         members = All-set (IsMember old.header.f (old.events + 1)) old.agents a it.is is (members_longer old.header.f old.events old.agents world.members);
         steps = All-set IsDesk old.desks a (desk_with it.desk it.given) desk world.steps;
       };

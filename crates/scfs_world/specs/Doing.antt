@@ -1,10 +1,10 @@
 use Rattle.std.specs.Prelude.{◌≡◌, ◌+◌, ◌<◌, ◌≤◌, ℕ, List, [], ◌∷◌, ◌++◌, fold, Some, slice_get, slice_set, All}
 use Rattle.std.specs.List.{flat_map}
+use Rattle.scfs_base.specs.Limits.{carried_limit}
 use Rattle.scfs_policy.specs.declared.rank.RankFacts.{RankFacts}
 use Rattle.scfs_schedule.specs.declared.types.Header.{Header}
 use Rattle.scfs_schedule.specs.declared.types.Line.{Line}
 use Rattle.scfs_net.specs.Queues.{NetState, net_asked}
-use Rattle.scfs_net.specs.declared.messages.TheConstants.{CARRIED_LIMIT}
 use Rattle.scfs_model.specs.Format.{Setup}
 use Rattle.scfs_model.specs.Requests.{request_line}
 use Rattle.scfs_model.specs.UnitFormat.{under}
@@ -74,9 +74,9 @@ pub record IsDone (allows : RankFacts → ℕ → Type 0) (a : ℕ) (input : Inp
   pub after :
       new ≡ record old { agents = slice_set old.agents a it.is; desks = slice_set old.desks a (desk_with it.desk it.given); net = net_with old.net it.given }
   pub lines : (header : Header) → shown ≡ before ++ lines_out (under header) it.given
-  pub carried : new.net.carried ≤ CARRIED_LIMIT
+  pub carried : new.net.carried ≤ carried_limit
 
 -- or would carry too many bytes
 pub record IsTooMuch (allows : RankFacts → ℕ → Type 0) (a : ℕ) (input : Input) (old : WorldState) : Type 0 where
   pub it : IsGiven allows a input old
-  pub more : CARRIED_LIMIT < (net_with old.net it.given).carried
+  pub more : carried_limit < (net_with old.net it.given).carried

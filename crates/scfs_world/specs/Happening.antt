@@ -1,6 +1,6 @@
 use Rattle.std.specs.Prelude.{◌≡◌, ◌≤◌, ℕ, List, ◌∷◌}
+use Rattle.scfs_base.specs.Limits.{carried_limit}
 use Rattle.scfs_policy.specs.declared.rank.RankFacts.{RankFacts}
-use Rattle.scfs_net.specs.declared.messages.TheConstants.{CARRIED_LIMIT}
 use Rattle.scfs_schedule.specs.declared.types.Event.{Event}
 use Rattle.scfs_schedule.specs.declared.types.Header.{Header}
 use Rattle.scfs_schedule.specs.declared.types.Line.{Line}
@@ -21,7 +21,7 @@ pub record IsPlayed (allows : RankFacts → ℕ → Type 0) (header : Header) (p
   pub served : IsServed (under header) past
   pub ranked : IsRanked (under header) allows past
   pub events : AreEvents header past
-  pub carried : (net (under header) past).carried ≤ CARRIED_LIMIT
+  pub carried : (net (under header) past).carried ≤ carried_limit
 
 -- After an event, a world that stood for a history that was played: it stands for that history with an entry of the event, whose lines
 -- it gave, and this was played as well. Where no two different blocks of it share a digest, the lines are those that the file map

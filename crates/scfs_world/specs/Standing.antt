@@ -1,9 +1,9 @@
 use Rattle.std.specs.Prelude.{◌≡◌, ◌<◌, ◌≤◌, ℕ, List, ◌∷◌, length, map}
+use Rattle.scfs_base.specs.Limits.{carried_limit}
 use Rattle.scfs_schedule.specs.declared.types.Event.{Event}
 use Rattle.scfs_schedule.specs.declared.types.Header.{Header}
 use Rattle.scfs_schedule.specs.declared.types.Line.{Line}
 use Rattle.scfs_policy.specs.declared.rank.RankFacts.{RankFacts}
-use Rattle.scfs_net.specs.declared.messages.TheConstants.{CARRIED_LIMIT}
 use Rattle.scfs_model.specs.Format.{Setup}
 use Rattle.scfs_model.specs.UnitFormat.{under}
 use Rattle.scfs_model.specs.History.{Entry, History, own}
@@ -79,11 +79,11 @@ Steps allows old new event given =
     (ranks : List ℕ) × Answers allows (facts_asked s (actual s past) event) ranks
     × (given ≡ made s past event (message_of (net s past) event) ranks)
     × Stands new header (entry_after s past event ranks ∷ past)
-    × (carried_after s past event ranks ≤ CARRIED_LIMIT)
+    × (carried_after s past event ranks ≤ carried_limit)
 
 -- An event that would carry too many bytes: for some answers that the rank rule allows they would pass their limit.
 abbrev pub IsTooLarge : (allows : RankFacts → ℕ → Type 0) → WorldState → Event → Type 0
 IsTooLarge allows old event =
     (header : Header) (past : History) → Stands old header past →
     let s = under header in
-    (ranks : List ℕ) × Answers allows (facts_asked s (actual s past) event) ranks × (CARRIED_LIMIT < carried_after s past event ranks)
+    (ranks : List ℕ) × Answers allows (facts_asked s (actual s past) event) ranks × (carried_limit < carried_after s past event ranks)

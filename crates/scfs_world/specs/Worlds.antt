@@ -1,10 +1,10 @@
 use Rattle.std.specs.Prelude.{◌≡◌, ◌+◌, ◌*◌, ◌≤◌, ◌<◌, ℕ, List, [], ◌∷◌, length, All}
+use Rattle.scfs_base.specs.Limits.{carried_limit}
 use Rattle.scfs_schedule.specs.Grammar.{IsHeader}
 use Rattle.scfs_schedule.specs.declared.types.Event.{Event}
 use Rattle.scfs_schedule.specs.declared.types.Header.{Header}
 use Rattle.scfs_schedule.specs.declared.types.Line.{Line}
 use Rattle.scfs_tuples.specs.Steps.{IsStep}
-use Rattle.scfs_net.specs.declared.messages.TheConstants.{CARRIED_LIMIT}
 use Rattle.scfs_model.specs.UnitFormat.{under}
 use Rattle.scfs_model.specs.History.{History}
 use Rattle.scfs_model.specs.Due.{actual, made}
@@ -31,7 +31,7 @@ pub record IsWorld (w : WorldState) : Type 0 where
   pub agents : length w.agents ≡ length w.header.agents
   pub desks : length w.desks ≡ length w.header.agents
   pub clouds : length w.net.clouds ≡ 3 * w.header.f + 1
-  pub carried : w.net.carried ≤ CARRIED_LIMIT
+  pub carried : w.net.carried ≤ carried_limit
   pub members : All (IsMember w.header.f w.events) w.agents
   pub steps : All IsDesk w.desks
 
@@ -50,11 +50,11 @@ StepsUnasked old new event given =
     (facts_asked s (actual s past) event ≡ [])
     × (given ≡ made s past event (message_of (net s past) event) [])
     × Stands new header (entry_after s past event [] ∷ past)
-    × (carried_after s past event [] ≤ CARRIED_LIMIT)
+    × (carried_after s past event [] ≤ carried_limit)
 
 -- such an event that would carry too many bytes
 abbrev pub IsTooLargeUnasked : WorldState → Event → Type 0
 IsTooLargeUnasked old event =
     (header : Header) (past : History) → Stands old header past →
     let s = under header in
-    (facts_asked s (actual s past) event ≡ []) × (CARRIED_LIMIT < carried_after s past event [])
+    (facts_asked s (actual s past) event ≡ []) × (carried_limit < carried_after s past event [])

@@ -1,6 +1,6 @@
 ghost use Rattle.std.specs.Prelude.{◌≡◌, ◌+◌, ◌<◌, ◌≤◌, ◌++◌, length, All, IfErr, OnOk};
+ghost use Rattle.scfs_base.specs.Limits.{carried_limit};
 ghost use Rattle.scfs_model.specs.UnitFormat.{under};
-ghost use Rattle.scfs_net.specs.declared.messages.TheConstants.{CARRIED_LIMIT};
 ghost use Rattle.scfs_schedule.specs.declared.types.Header.{Header};
 ghost use Rattle.scfs_world.specs.Doing.{AsksAmong, desk_with, line_out, lines_out, net_by, net_with, step_out};
 ghost use Rattle.scfs_world.specs.declared.fault.StepFault.TheVariants as StepFault;
@@ -23,12 +23,12 @@ fn do_output(
     lines: &mut Sequence<Line>,
 ) -> Result<(), StepFault>
     requires clouds { AsksAmong (length net.old.clouds) output }
-    requires carried { net.old.carried ≤ CARRIED_LIMIT }
+    requires carried { net.old.carried ≤ carried_limit }
     ensures lines { OnOk result ((header : Header) → lines.new ≡ lines.old ++ line_out (under header) output) }
     ensures desk { OnOk result (desk.new ≡ record desk.old { asked = desk.old.asked ++ step_out output }) }
     ensures net { OnOk result (net.new ≡ net_by net.old output) }
-    ensures carried { OnOk result (net.new.carried ≤ CARRIED_LIMIT) }
-    ensures too_large { IfErr result (λ fault. fault ≡ StepFault.TooLarge → CARRIED_LIMIT < (net_by net.old output).carried) }
+    ensures carried { OnOk result (net.new.carried ≤ carried_limit) }
+    ensures too_large { IfErr result (λ fault. fault ≡ StepFault.TooLarge → carried_limit < (net_by net.old output).carried) }
 {
     match output {
         Output::Space(request, step) => desk.ask(AskedStep { request, step })?,
@@ -50,12 +50,12 @@ pub fn do_outputs(
     lines: &mut Sequence<Line>,
 ) -> Result<(), StepFault>
     requires clouds { All (AsksAmong (length net.old.clouds)) outputs }
-    requires carried { net.old.carried ≤ CARRIED_LIMIT }
+    requires carried { net.old.carried ≤ carried_limit }
     ensures lines { OnOk result ((header : Header) → lines.new ≡ lines.old ++ lines_out (under header) outputs) }
     ensures desk { OnOk result (desk.new ≡ desk_with desk.old outputs) }
     ensures net { OnOk result (net.new ≡ net_with net.old outputs) }
-    ensures carried { OnOk result (net.new.carried ≤ CARRIED_LIMIT) }
-    ensures too_large { IfErr result (λ fault. fault ≡ StepFault.TooLarge → CARRIED_LIMIT < (net_with net.old outputs).carried) }
+    ensures carried { OnOk result (net.new.carried ≤ carried_limit) }
+    ensures too_large { IfErr result (λ fault. fault ≡ StepFault.TooLarge → carried_limit < (net_with net.old outputs).carried) }
 {
     let mut outputs = outputs;
     'each: while let Some(output) = outputs.pop_front() {

@@ -1,10 +1,10 @@
 use Rattle.std.proofs.Common.{◌≡◌, ◌≤◌, ◌+◌, [], length}
+use Rattle.scfs_base.specs.Limits.{events_limit}
 use Rattle.scfs_base.specs.Outside.{Puts}
 use Rattle.scfs_schedule.specs.Reading.{IsAtEvents, gives}
 use Rattle.scfs_model.specs.History.{History, transcript}
 use Rattle.scfs_world.specs.Standing.{Stands}
 use Rattle.scfs_world.specs.Worlds.{IsWorld}
-use Rattle.scfs_cli.specs.declared.limits.TheConstants.{EVENTS_LIMIT}
 use Rattle.scfs_cli.proofs.HistoryLemmas.{with_past, AllPlayed, Known}
 use Rattle.scfs_cli.proofs.play.play_events.Given as goal
 
@@ -23,7 +23,7 @@ invariant-events g l =
       played : AllPlayed (l.initial.reader.lines + 1) past;
       lines : l.reader.lines ≡ l.initial.reader.lines + length past;
       count : l.world.events ≡ length past;
-      few : l.world.events ≤ EVENTS_LIMIT;
+      few : l.world.events ≤ events_limit;
       later : g.O.Sink.faults l.initial.out ≤ g.O.Sink.faults l.out;
     }
 

@@ -1,6 +1,6 @@
 use Rattle.std.proofs.Common.{◌≡◌, ◌≤◌, ◌++◌, length}
 use Rattle.std.specs.List.{All}
-use Rattle.scfs_net.specs.declared.messages.TheConstants.{CARRIED_LIMIT}
+use Rattle.scfs_base.specs.Limits.{carried_limit}
 use Rattle.scfs_model.specs.UnitFormat.{under}
 use Rattle.scfs_schedule.specs.declared.types.Header.{Header}
 use Rattle.scfs_world.specs.Doing.{AsksAmong, lines_out, steps_out, net_with}
@@ -10,7 +10,7 @@ abbrev pub invariant-each : goal.invariant-each
 invariant-each l =
     record {
       among : All (AsksAmong (length l.net.clouds)) l.outputs;
-      carried : l.net.carried ≤ CARRIED_LIMIT;
+      carried : l.net.carried ≤ carried_limit;
       net : net_with l.fn.net l.fn.outputs ≡ net_with l.net l.outputs;
       lines : (header : Header) → l.fn.lines ++ lines_out (under header) l.fn.outputs ≡ l.lines ++ lines_out (under header) l.outputs;
       asked : l.fn.desk.asked ++ steps_out l.fn.outputs ≡ l.desk.asked ++ steps_out l.outputs;

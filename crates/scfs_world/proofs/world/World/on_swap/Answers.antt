@@ -1,7 +1,7 @@
 use Rattle.std.proofs.Common.{ap, ◌∙◌, subst, sym, refl, ◌≤◌}
+use Rattle.scfs_base.specs.Limits.{carried_limit}
 use Rattle.scfs_model.specs.UnitFormat.{under}
 use Rattle.scfs_schedule.specs.declared.types.Event.TheVariants as events
-use Rattle.scfs_net.specs.declared.messages.TheConstants.{CARRIED_LIMIT}
 use Rattle.scfs_net.specs.Queues.{cloud_at}
 use Rattle.scfs_world.specs.Showing.{moved_lines}
 use Rattle.scfs_world.specs.State.{WorldState, counted}
@@ -16,5 +16,5 @@ returns-clause-stands c =
     let new : WorldState = record old { net = c.swap-moved.new.self } in
     subst (λ (w : WorldState). StepsUnasked w (counted new) (events.Swap c.args.c) c.in_ok-moved_lines.field-0) c.self.view_is
     (clouds_step (events.Swap c.args.c) queue_lines (swap_is c.args.c) old new c.swap-moved.new.self c.in_ok-moved_lines.field-0
-    refl c.swap-moved.ensures.after (subst (λ (w : WorldState). w.net.carried ≤ CARRIED_LIMIT) (sym c.self.view_is) c.requires.world.carried)
+    refl c.swap-moved.ensures.after (subst (λ (w : WorldState). w.net.carried ≤ carried_limit) (sym c.self.view_is) c.requires.world.carried)
     (λ header. c.in_ok-moved_lines.ensures ∙ ap moved_lines c.swap-moved.ensures.answer ∙ reply_lines-moved (under header) (cloud_at old.net c.args.c).replies))
