@@ -12,10 +12,18 @@ module _ {V W : Type 0} (g : V → W) where
   of_followed r on off same =
       let second = off r.agent in
       ap (λ (x : Reaction W). record {
-        agent = x.agent; says = r.says ++ x.says; steps = map (to.request g) r.steps ++ x.steps; sent = r.sent ++ x.sent; ranked = r.ranked ++ x.ranked
+        agent = x.agent;
+        says = r.says ++ x.says;
+        steps = map (to.request g) r.steps ++ x.steps;
+        sent = r.sent ++ x.sent;
+        ranked = r.ranked ++ x.ranked;
       }) same
       ∙ ap (λ steps. record {
-        agent = to.agent g second.agent; says = r.says ++ second.says; steps = steps; sent = r.sent ++ second.sent; ranked = r.ranked ++ second.ranked
+        agent = to.agent g second.agent;
+        says = r.says ++ second.says;
+        steps = steps;
+        sent = r.sent ++ second.sent;
+        ranked = r.ranked ++ second.ranked;
       }) (map_append (to.request g) r.steps second.steps)
 
   -- one after the other

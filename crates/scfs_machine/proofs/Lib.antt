@@ -16,3 +16,52 @@ pub mod ToldMaps
 pub mod ReactionMaps
 pub mod StateMaps
 pub mod TwoLayers
+pub mod SoundLists
+pub mod SoundKept
+pub mod SoundCalls
+pub mod SoundOpens
+pub mod SoundReactions
+pub mod SoundStates
+pub mod SoundAnswers
+pub mod SoundUnit
+pub mod SoundLaw
+pub mod HeldSessions
+pub mod HeldSeats
+pub mod HeldSteps
+pub mod HeldLines
+pub mod HeldDoing
+pub mod HeldCalls
+pub mod HeldCloses
+pub mod HeldClosing
+pub mod HeldOpens
+pub mod HeldTold
+pub mod HeldWork
+pub mod HeldVersions
+pub mod HeldSpace
+pub mod HeldPlaces
+pub mod HeldReads
+mod HeldPlayed
+pub mod PieceClouds
+mod NewestLists
+mod NewestDraws
+mod NewestKept
+mod NewestSteady
+mod NewestWalk
+mod NamesWalks
+mod NamesEvents
+mod NamesSteps
+mod NamesApart
+mod NamesLocks
+mod NewestLines
+mod NamesCommits
+mod NewestVersions
+mod NewestTree
+mod NewestServes
+mod NewestSeats
+mod NewestSaid
+mod NewestComes
+mod NewestServed
+mod NewestPlaces
+mod NewestStates
+mod NewestOpens
+mod NewestRuns

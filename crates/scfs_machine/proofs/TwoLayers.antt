@@ -22,7 +22,7 @@ own =
       completed = λ v now. record v { moment = now };
     }
 
-entry_alike : (s : Setup) (x : State Version) (e : Entry) → FitsPlace s WasClosed x e.message (place_of e.event)
+pub entry_alike : (s : Setup) (x : State Version) (e : Entry) → FitsPlace s WasClosed x e.message (place_of e.event)
     → effect_of s rows (to.state (row_of s) x) e ≡ to.effect (row_of s) (effect_of s (closes s) x e)
 entry_alike s x e sound =
     same_effect s rows (row_of s) own (λ y u. refl) (λ v now. refl) x e.event e.message (given_of x.clock e) sound

@@ -1,15 +1,14 @@
-use Rattle.std.specs.Prelude.{ℕ, List, [], ◌++◌, Option, Some, None}
+use Rattle.std.specs.Prelude.{ℕ, List, [], ◌∷◌, ◌++◌, Option, Some, None}
 use Rattle.std.specs.List.{flat_map}
 use Rattle.scfs_base.specs.declared.cloud.CloudAnswer.{CloudAnswer}
 use Rattle.scfs_base.specs.declared.cloud.CloudAnswer.TheVariants as answers
 use Rattle.scfs_base.specs.declared.cloud.CloudRequest.{CloudRequest}
 use Rattle.scfs_base.specs.declared.cloud.CloudRequest.TheVariants as requests
-use Rattle.scfs_schedule.specs.declared.types.Event.{Event}
 use Rattle.scfs_schedule.specs.declared.types.Header.{Header}
 use Rattle.scfs_unit.specs.Clash.{blocks_of_answer}
 use Rattle.scfs_unit.specs.Clash as unit
 use Rattle.scfs_machine.specs.UnitFormat.{under}
-use Rattle.scfs_machine.specs.History.{Message, Of_request, Of_answer, History}
+use Rattle.scfs_machine.specs.History.{Message, Of_request, Of_answer, Entry, History}
 use Rattle.scfs_machine.specs.Agents.{Sent}
 use Rattle.scfs_machine.specs.Events.{Place, Agent_has, Space_has, Cloud_has, Nowhere, Request_answered, Answer_given, Message_moved, place_of}
 use Rattle.scfs_machine.specs.Layers.{rows}
@@ -48,10 +47,14 @@ blocks_at f message (Cloud_has c Answer_given) = []
 blocks_at f message (Cloud_has c Message_moved) = []
 blocks_at f message Nowhere = []
 
+-- those of an event after a history
+abbrev pub new_blocks : Header → History → Entry → List (List ℕ)
+new_blocks header past e =
+    blocks_at header.f e.message (place_of e.event) ++ blocks_sent header.f (effect_after (under header) rows past e).sent
+
 abbrev pub blocks : Header → History → List (List ℕ)
 blocks header [] = []
-blocks header (e ∷ past) =
-    blocks_at header.f e.message (place_of e.event) ++ blocks_sent header.f (effect_after (under header) rows past e).sent ++ blocks header past
+blocks header (e ∷ past) = new_blocks header past e ++ blocks header past
 
 -- no two different blocks of a history share a digest
 abbrev pub NoClash : Header → History → Type 0

@@ -1,5 +1,4 @@
-use Rattle.std.specs.Prelude.{◌≡◌, ℕ, ◌+◌, List, [], ◌∷◌, ◌++◌, length, map, filter, find, fold, Bool, true, false, ◌&&◌, ◌==◌, nat_lt, if◌then◌else◌, Option, Some, None, Contains}
-use Rattle.std.specs.Str.{bytes_eq}
+use Rattle.std.specs.Prelude.{◌≡◌, ℕ, ◌+◌, List, [], ◌∷◌, ◌++◌, length, find, fold, Bool, true, false, ◌&&◌, ◌==◌, if◌then◌else◌, Option, Some, None, Contains}
 use Rattle.std.specs.List.{list_any}
 use Rattle.scfs_base.specs.declared.naming.FileId.{FileId}
 use Rattle.scfs_base.specs.declared.naming.RequestNo.{RequestNo}
@@ -21,88 +20,77 @@ use Rattle.scfs_machine.specs.Reading.{Reading, is_awaited, piece_in, with_piece
 
 -- The bytes that sessions hold, followed through the events, their lines and the clouds' answers, without the file map.
 
--- an open session
-pub record Session_seen : Type 0 where
-  pub agent : ℕ
-  pub number : ℕ
-  pub bytes : List ℕ
-
--- the bytes with which a session was closed, and the upload that they become: that of the agent with the same count
+-- the bytes with which a session was closed, and the upload that they become
 pub record Close_seen : Type 0 where
   pub upload : UploadNo
   pub bytes : List ℕ
 
-pub record Put_seen : Type 0 where
-  pub request : RequestNo
-  pub name : List ℕ
-
--- a completed version, with the name of its upload
+-- a completed version, and the close that it is
 pub record Version_seen : Type 0 where
   pub file : FileId
   pub number : ℕ
-  pub name : List ℕ
+  pub close : Close_seen
 
--- the sight of an open, and how far its reading from the clouds is, where it reads there
-pub record Sight_seen : Type 0 where
-  pub agent : ℕ
+-- what was seen of an agent: the bytes of each of its sessions, by the session's number; its latest close; and the reading from the
+-- clouds of the version in its latest sight
+pub record Agent_seen : Type 0 where
+  pub bytes : (h : ℕ) → List ℕ
+  pub close : Close_seen
   pub reading : Reading
 
--- what was seen so far, the newest first
+-- what was seen so far: of each agent, by its number; and the versions, in the order in which they were completed
 pub record Seen : Type 0 where
-  pub sessions : List Session_seen
-  pub closes : List Close_seen
-  pub puts : List Put_seen
+  pub agents : (a : ℕ) → Agent_seen
   pub versions : List Version_seen
-  pub sights : List Sight_seen
 
-abbrev pub nothing_seen : Seen
-nothing_seen = record { sessions = []; closes = []; puts = []; versions = []; sights = [] }
-
-abbrev pub is_session : (a h : ℕ) → Session_seen → Bool
-is_session a h y = (y.agent == a) && (y.number == h)
-
--- the bytes of session h of agent a
-abbrev pub bytes_seen : Seen → (a h : ℕ) → List ℕ
-bytes_seen x a h = if_some (find (is_session a h) x.sessions) [] (λ y. y.bytes)
-
--- the name of the upload of a commit: that of the agent's last Put asked before it
-abbrev pub was_before : RequestNo → Put_seen → Bool
-was_before request p = (p.request.agent == request.agent) && nat_lt p.request.number request.number
-
-abbrev pub name_committed : Seen → RequestNo → List ℕ
-name_committed x request = if_some (find (was_before request) x.puts) [] (λ p. p.name)
-
--- the name of a version's upload, and the close that became it
-abbrev pub version_name : Seen → FileId → (number : ℕ) → List ℕ
-version_name x file number =
-    if_some (find (λ (v : Version_seen). same_file v.file file && (v.number == number)) x.versions) [] (λ v. v.name)
-
-abbrev pub no_close : Close_seen
-no_close = record { upload = upload_no 0 0 0; bytes = [] }
-
-abbrev pub close_named : Seen → (name : List ℕ) → Close_seen
-close_named x name = if_some (find (λ (y : Close_seen). bytes_eq (upload_name y.upload) name) x.closes) no_close (λ y. y)
-
--- a reading from the clouds that begins, of the objects of a close, under the root and the length of the seal of its bytes
+-- a reading that begins, of the objects of a close: under its upload's name, and the root and the length of the seal of its bytes
 abbrev pub new_reading : Setup → Close_seen → Reading
 new_reading s y =
-    record { name = upload_name y.upload; root = (sealed s y.upload y.bytes).root; size = length y.bytes; order = []; gets = []; pieces = []; turns = 0 }
+    record {
+      name = upload_name y.upload;
+      root = (sealed s y.upload y.bytes).root;
+      size = length y.bytes;
+      order = [];
+      gets = [];
+      pieces = [];
+      turns = 0;
+    }
 
-abbrev pub reading_of : Setup → Seen → FileId → (number : ℕ) → Reading
-reading_of s x file number = new_reading s (close_named x (version_name x file number))
+-- before an agent's first close
+abbrev pub no_close : (a : ℕ) → Close_seen
+no_close a = record { upload = upload_no a 0 0; bytes = [] }
 
--- the latest sight of an agent, and the sights with that one changed
-abbrev pub latest_sight : Seen → (a : ℕ) → Option Sight_seen
-latest_sight x a = find (λ (y : Sight_seen). y.agent == a) x.sights
+abbrev pub nothing_seen : Setup → Seen
+nothing_seen s = record { agents = λ a. record { bytes = λ h. []; close = no_close a; reading = new_reading s (no_close a) }; versions = [] }
 
-abbrev pub change_sight : (a : ℕ) → (Reading → Reading) → List Sight_seen → List Sight_seen
-change_sight a change [] = []
-change_sight a change (y ∷ rest) = if y.agent == a then (record y { reading = change y.reading }) ∷ rest else y ∷ change_sight a change rest
+-- what stands at each number, with this at one of them
+abbrev pub set_at : {X : Type 0} → (ℕ → X) → (n : ℕ) → X → ℕ → X
+set_at at n x m = if m == n then x else at m
 
+abbrev pub of_agent : (a : ℕ) → (Agent_seen → Agent_seen) → Seen → Seen
+of_agent a change x = record x { agents = set_at x.agents a (change (x.agents a)) }
+
+abbrev pub with_bytes : (h : ℕ) → (bytes : List ℕ) → Agent_seen → Agent_seen
+with_bytes h bytes y = record y { bytes = set_at y.bytes h bytes }
+
+abbrev pub with_reading : (Reading → Reading) → Agent_seen → Agent_seen
+with_reading change y = record y { reading = change y.reading }
+
+-- the reading that begins at the sight of a file's version
+abbrev pub is_version : FileId → (number : ℕ) → Version_seen → Bool
+is_version file number v = same_file v.file file && (v.number == number)
+
+abbrev pub reading_of : Setup → List Version_seen → FileId → (number : ℕ) → Reading
+reading_of s versions file number = new_reading s (if_some (find (is_version file number) versions) (no_close 0) (λ (v : Version_seen). v.close))
+
+-- a Get that was asked
+abbrev pub with_get : RequestNo → (c : ℕ) → Reading → Reading
+with_get request c r = record r { gets = r.gets ++ (record { request = request; cloud = c }) ∷ [] }
+
+-- an answer that is given adds its piece, if it is good
 abbrev pub after_answer : Setup → (c : ℕ) → RequestNo → CloudAnswer → Reading → Reading
 after_answer s c request answer r = if is_awaited r c request then with_piece r (piece_in s r c answer) else r
 
--- the answer that an event gives
 abbrev pub after_message : Setup → (c : ℕ) → RequestNo → Option Message → Reading → Reading
 after_message s c request None r = r
 after_message s c request (Some (Of_request other)) r = r
@@ -123,28 +111,18 @@ edited (events.Call a (calls.Write h offset new)) bytes = written bytes offset n
 edited (events.Call a (calls.Truncate h size)) bytes = resized bytes size
 edited other bytes = bytes
 
-abbrev pub with_edit : (a h : ℕ) → Event → Seen → Seen
-with_edit a h event x =
-    record x { sessions = map (λ (y : Session_seen). if is_session a h y then record y { bytes = edited event y.bytes } else y) x.sessions }
-
-abbrev pub with_session : (a h : ℕ) → (bytes : List ℕ) → Seen → Seen
-with_session a h bytes x = record x { sessions = (record { agent = a; number = h; bytes = bytes }) ∷ x.sessions }
-
--- what is seen after a line of an event
+-- what is seen after a line of an event. An agent's close is answered before its next call, so the version that is completed on its
+-- request is its latest close
 abbrev pub seen_line : Setup → Event → Option Message → Seen → Line → Seen
-seen_line s event message x (lines.Put request c name size digest) = record x { puts = (record { request = request; name = name }) ∷ x.puts }
+seen_line s event message x (lines.Opened a h number source size) = of_agent a (λ y. with_bytes h (bytes_opened s y.reading source) y) x
+seen_line s event message x (lines.OkWrite a h size) = of_agent a (λ y. with_bytes h (edited event (y.bytes h)) y) x
+seen_line s event message x (lines.OkTruncate a h size) = of_agent a (λ y. with_bytes h (edited event (y.bytes h)) y) x
 seen_line s event message x (lines.Committed request file number) =
-    record x { versions = (record { file = file; number = number; name = name_committed x request }) ∷ x.versions }
+    record x { versions = x.versions ++ (record { file = file; number = number; close = (x.agents request.agent).close }) ∷ [] }
 seen_line s event message x (lines.Saw request file number) =
-    record x { sights = (record { agent = request.agent; reading = reading_of s x file number }) ∷ x.sights }
-seen_line s event message x (lines.Get request c name) =
-    record x { sights = change_sight request.agent (λ r. record r { gets = r.gets ++ (record { request = request; cloud = c }) ∷ [] }) x.sights }
-seen_line s event message x (lines.Gave c request sum) =
-    record x { sights = change_sight request.agent (after_message s c request message) x.sights }
-seen_line s event message x (lines.Opened a h number source size) =
-    if_some (latest_sight x a) x (λ y. with_session a h (bytes_opened s y.reading source) x)
-seen_line s event message x (lines.OkWrite a h size) = with_edit a h event x
-seen_line s event message x (lines.OkTruncate a h size) = with_edit a h event x
+    of_agent request.agent (with_reading (λ r. reading_of s x.versions file number)) x
+seen_line s event message x (lines.Get request c name) = of_agent request.agent (with_reading (with_get request c)) x
+seen_line s event message x (lines.Gave c request sum) = of_agent request.agent (with_reading (after_message s c request message)) x
 seen_line s event message x other = x
 
 -- whether a line answers a close at once: it is refused, or that of a session that reads
@@ -153,24 +131,23 @@ is_answer (lines.No a why) = true
 is_answer (lines.OkClose a h) = true
 is_answer other = false
 
-abbrev pub with_close : (a h : ℕ) → Seen → Seen
-with_close a h x =
-    let count = length (filter (λ (y : Close_seen). y.upload.agent == a) x.closes) + 1 in
-    record x { closes = (record { upload = upload_no a 0 count; bytes = bytes_seen x a h }) ∷ x.closes }
+-- the close of a session: an agent's uploads are numbered as its closes
+abbrev pub with_close : (a h : ℕ) → Agent_seen → Agent_seen
+with_close a h y = record y { close = record { upload = upload_no a 0 (y.close.upload.count + 1); bytes = y.bytes h } }
 
--- the close of a session that writes
+-- what is seen where an event with these lines begins: the close of a session that writes
 abbrev pub seen_event : Event → List Line → Seen → Seen
-seen_event (events.Call a (calls.Close h)) shown x = if list_any is_answer shown then x else with_close a h x
+seen_event (events.Call a (calls.Close h)) shown x = if list_any is_answer shown then x else of_agent a (with_close a h) x
 seen_event other shown x = x
 
 -- what is seen after a history
 abbrev pub seen : Setup → History → Seen
-seen s [] = nothing_seen
+seen s [] = nothing_seen s
 seen s (e ∷ past) = fold (seen_line s e.event e.message) (seen_event e.event e.lines (seen s past)) e.lines
 
 -- the bytes that session h of agent a holds
 abbrev pub held : Setup → History → (a h : ℕ) → List ℕ
-held s past a h = bytes_seen (seen s past) a h
+held s past a h = ((seen s past).agents a).bytes h
 
 -- a line of bytes read stands only where that session is read, and shows the bytes that it holds, from the offset on, all of them
 -- or as many as were asked

@@ -1,6 +1,4 @@
-use Rattle.std.specs.Prelude.{◌≡◌, ◌≤◌, ℕ, List, [], ◌∷◌, length, find, Bool, ◌&&◌, ◌==◌, if◌then◌else◌, None, Contains}
-use Rattle.std.specs.Str.{bytes_eq}
-use Rattle.scfs_base.specs.declared.naming.FileId.{FileId}
+use Rattle.std.specs.Prelude.{[], ◌∷◌}
 use Rattle.scfs_gf256.specs.Polynomials.{AreBytes}
 use Rattle.scfs_schedule.specs.Grammar.{IsHeader, IsEvent}
 use Rattle.scfs_schedule.specs.declared.types.Call.{Call}
@@ -8,12 +6,9 @@ use Rattle.scfs_schedule.specs.declared.types.Call.TheVariants as calls
 use Rattle.scfs_schedule.specs.declared.types.Event.{Event}
 use Rattle.scfs_schedule.specs.declared.types.Event.TheVariants as events
 use Rattle.scfs_schedule.specs.declared.types.Header.{Header}
-use Rattle.scfs_machine.specs.Names.{same_file}
-use Rattle.scfs_machine.specs.Format.{Setup}
 use Rattle.scfs_machine.specs.UnitFormat.{under}
 use Rattle.scfs_machine.specs.History.{Entry, History}
-use Rattle.scfs_machine.specs.Tree.{Node}
-use Rattle.scfs_machine.specs.Runs.{mapped, Happens, Run}
+use Rattle.scfs_machine.specs.Runs.{Happens, Run}
 use Rattle.scfs_machine.specs.Clouds.{IsServed}
 use Rattle.scfs_machine.specs.Blocks.{NoClash}
 use Rattle.scfs_machine.specs.Sound.{IsSound}
@@ -39,11 +34,12 @@ SoundWithoutClash =
     (header : Header) (past : History) → IsHeader header → IsServed (under header) past → AreEvents header past → NoClash header past
     → IsSound (under header) past
 
--- whether a node has this name below this parent
-abbrev pub has_place : FileId → (name : List ℕ) → Node → Bool
-has_place parent name n = same_file n.parent parent && bytes_eq n.name name
+-- and what happens is what the file map demands
+abbrev pub RunsWithoutClash : Type 0
+RunsWithoutClash =
+    (header : Header) (past : History) → IsHeader header → Happens (under header) past → IsServed (under header) past → AreEvents header past
+    → NoClash header past → Run (under header) past
 
--- no two nodes have one name below one parent: none is found among those behind it
-abbrev pub NamesDiffer : List Node → Type 0
-NamesDiffer [] = Unit {0}
-NamesDiffer (n ∷ ns) = (find (has_place n.parent n.name) ns ≡ None) × NamesDiffer ns
+-- where no two different blocks of a history share a digest, none of it without its newest event do
+abbrev pub NoClashBefore : Type 0
+NoClashBefore = (header : Header) (e : Entry) (past : History) → NoClash header (e ∷ past) → NoClash header past

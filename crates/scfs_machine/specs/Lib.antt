@@ -33,4 +33,6 @@ pub mod Held
 pub mod Mapped
 pub mod Sound
 pub mod Blocks
+pub mod Newest
+pub mod TreeLaws
 pub mod Laws

@@ -2,6 +2,13 @@
 //! the functions here only carry laws about them.
 #![tactic(auto)]
 
+mod clash;
 mod laws;
 
-pub use laws::layers_agree;
+pub use clash::{
+    no_clash_before, pieces_are_of_their_clouds, runs_without_clash, sound_without_clash,
+};
+pub use laws::{
+    commits_held_their_locks, layers_agree, opens_are_newest, reads_are_held, runs_of_prefixes,
+    trees_are_whole,
+};

@@ -1,0 +1,121 @@
+-- Answers of clouds and turns leave what is seen of an agent tied to its seat.
+use Rattle.std.proofs.Common.{◌≡◌, ℕ, ◌+◌, List, [], ◌∷◌, refl, sym, ap, subst, Bool, true, false, cond, Option, Some, None, is_some}
+use Rattle.scfs_base.specs.declared.naming.RequestNo.{RequestNo}
+use Rattle.scfs_base.specs.declared.cloud.CloudAnswer.{CloudAnswer}
+use Rattle.scfs_schedule.specs.declared.types.Event.{Event}
+use Rattle.scfs_machine.specs.Format.{Setup}
+use Rattle.scfs_machine.specs.Next.{Next, Goes_on, Asks, Has, Gives_up}
+use Rattle.scfs_machine.specs.Reading.{Reading, is_awaited, piece_in, with_piece, read_on, read_turn}
+use Rattle.scfs_machine.specs.LockSteps.{Unlock}
+use Rattle.scfs_machine.specs.Steps.{On_locks}
+use Rattle.scfs_machine.specs.Agents.{Opening, Waiting, For_step, For_clouds, For_close, Upload, Closed, Request, Agent, Reaction, silent, asks_step}
+use Rattle.scfs_machine.specs.Opens.{tallied, reads, takes, open_hears, open_turns}
+use Rattle.scfs_machine.specs.Closes.{upload_hears, upload_turns}
+use Rattle.scfs_machine.specs.Reactions.{to_closed, to_upload, to_work, hears, turns}
+use Rattle.scfs_machine.specs.Layers.{Row, rows}
+use Rattle.scfs_machine.specs.States.{Reply}
+use Rattle.scfs_machine.specs.Held.{Version_seen, Agent_seen, with_reading, after_answer}
+use Rattle.scfs_machine.proofs.HeldSeats.{Seated}
+use Rattle.scfs_machine.proofs.HeldLines.{Does}
+use Rattle.scfs_machine.proofs.HeldDoing.{at, seat_of, silent_does, followed_silent}
+use Rattle.scfs_machine.proofs.HeldOpens.{open_hears_does, open_turns_does}
+use Rattle.scfs_machine.proofs.HeldCloses.{uploading, upload_hears_does, upload_turns_does}
+
+-- an open from the clouds leaves the closed sessions
+
+module _ (s : Setup) (a : ℕ) where
+  either_closed : (b : Bool) (first second : Reaction Row) (closed : List (Closed Row)) → first.agent.closed ≡ closed → second.agent.closed ≡ closed
+      → (cond b first second).agent.closed ≡ closed
+  either_closed true first second closed h k = h
+  either_closed false first second closed h k = k
+
+  reads_closed : (agent : Agent Row) (o : Opening Row) (next : Next (List ℕ)) → (reads s rows a agent o next).agent.closed ≡ agent.closed
+  reads_closed agent o Goes_on = refl
+  reads_closed agent o (Asks clouds) = refl
+  reads_closed agent o (Has bytes) = refl
+  reads_closed agent o (Gives_up good) =
+      either_closed o.writes (asks_step a (record agent { waiting = None }) (On_locks (Unlock o.version.file o.session)))
+      (silent (record agent { waiting = None })) agent.closed refl refl
+
+  hears_closed : (agent : Agent Row) (o : Opening Row) (c : ℕ) (request : RequestNo) (answer : CloudAnswer)
+      → (open_hears s rows a agent o c request answer).agent.closed ≡ agent.closed
+  hears_closed agent o c request answer =
+      let piece = piece_in s o.reading c answer in
+      either_closed (is_awaited o.reading c request) (takes s rows a agent o c piece) (reads s rows a agent o Goes_on) agent.closed
+      (reads_closed (tallied agent c (is_some piece)) (record o { reading = with_piece o.reading piece }) (read_on s o.reading piece)) refl
+
+-- first the open, then the upload: at most one of them is there. What is seen of the reading may change before
+module _ (s : Setup) (event : Event) (a : ℕ) (versions : List Version_seen) (y : Agent_seen) (reading : Reading) (asked : List (Request Row))
+    (replied : List (Reply Row)) (on_open : Agent Row → Opening Row → Reaction Row)
+    (on_upload : Agent Row → Closed Row → Upload Row → Reaction Row) where
+  abbrev later : Agent_seen
+  later = record y { reading = reading }
+
+  -- what is seen is tied to the seat of the agent when it is this, and after a reaction
+  abbrev Sits : Agent_seen → Agent Row → Type 0
+  Sits z agent = Seated s versions a z (seat_of agent asked replied)
+
+  abbrev Doing : Reaction Row → Type 0
+  Doing r = Does s event a versions later asked replied r
+
+  -- what the two are to do
+  pub record Works : Type 0 where
+    pub opens : (agent : Agent Row) (o : Opening Row) → Sits y (at agent (Some (For_clouds o)) [])
+        → Doing (on_open (at agent None []) o)
+    pub leaves : (agent : Agent Row) (o : Opening Row) → (on_open (at agent None []) o).agent.closed ≡ []
+    pub uploads : (agent : Agent Row) (x : Closed Row) (u : Upload Row) → Sits later (uploading agent x u)
+        → Doing (on_upload (at agent (Some For_close) []) x u)
+
+  upload_works : (agent : Agent Row) (x : Closed Row) (upload : Option (Upload Row)) → Works
+      → Sits later (at agent (Some For_close) ((record x { upload = upload }) ∷ []))
+      → Does s event a versions later asked replied
+      (to_closed (at agent (Some For_close) ((record x { upload = upload }) ∷ [])) on_upload [] (record x { upload = upload }) upload)
+  upload_works agent x None works is = absurd is.waits
+  upload_works agent x (Some u) works is = works.uploads agent (record x { upload = Some u }) u is
+
+  pub work_does : (agent : Agent Row) (waiting : Option (Waiting Row)) (closed : List (Closed Row)) → Works
+      → Sits y (at agent waiting closed)
+      → Doing (to_work (at agent waiting closed) on_open on_upload)
+  work_does agent None [] works is =
+      silent_does s event a versions later asked replied (at agent None [])
+      (record { sessions = is.sessions; incarnation = is.incarnation; upload = is.upload; waits = tt; steps = is.steps })
+  work_does agent None (x ∷ rest) works is = absurd is.waits
+  work_does agent (Some For_step) [] works is =
+      silent_does s event a versions later asked replied (at agent (Some For_step) [])
+      (record { sessions = is.sessions; incarnation = is.incarnation; upload = is.upload; waits = tt; steps = is.steps })
+  work_does agent (Some For_step) (x ∷ rest) works is = absurd is.waits
+  work_does agent (Some (For_clouds o)) [] works is =
+      let first = on_open (at agent None []) o in
+      subst Doing
+      (sym (followed_silent first (λ next. to_upload next on_upload next.closed)
+      (ap (λ (closed : List (Closed Row)). to_upload first.agent on_upload closed) (works.leaves agent o)))) (works.opens agent o is)
+  work_does agent (Some (For_clouds o)) (x ∷ rest) works is = absurd is.waits.1
+  work_does agent (Some For_close) [] works is = absurd is.waits
+  work_does agent (Some For_close) (x ∷ []) works is =
+      upload_works agent x x.upload works
+      (record { sessions = is.sessions; incarnation = is.incarnation; upload = is.upload; waits = is.waits; steps = is.steps })
+  work_does agent (Some For_close) (x ∷ z ∷ rest) works is = absurd is.waits
+
+module _ (s : Setup) (event : Event) (a : ℕ) (versions : List Version_seen) (y : Agent_seen) (asked : List (Request Row))
+    (replied : List (Reply Row)) where
+  pub hears_does : (agent : Agent Row) (c : ℕ) (request : RequestNo) (answer : CloudAnswer) → Seated s versions a y (seat_of agent asked replied)
+      → Does s event a versions (with_reading (after_answer s c request answer) y) asked replied (hears s rows a agent c request answer)
+  hears_does agent c request answer is =
+      work_does s event a versions y (after_answer s c request answer y.reading) asked replied
+      (λ next o. open_hears s rows a next o c request answer)
+      (λ next x u. upload_hears s a next x u c request answer) agent agent.waiting agent.closed (record {
+        opens = λ agent o is. open_hears_does s event a versions asked replied y agent o c request answer is;
+        leaves = λ agent o. hears_closed s a (at agent None []) o c request answer;
+        uploads = λ agent x u is. upload_hears_does s event a versions (with_reading (after_answer s c request answer) y) asked replied agent x u c
+            request answer is;
+      }) is
+
+  pub turns_does : (agent : Agent Row) → Seated s versions a y (seat_of agent asked replied)
+      → Does s event a versions y asked replied (turns s rows a agent)
+  turns_does agent is =
+      work_does s event a versions y y.reading asked replied (open_turns s rows a) (upload_turns s a) agent agent.waiting agent.closed (record {
+        opens = λ agent o is. open_turns_does s event a versions asked replied y agent o is;
+        leaves = λ agent o. reads_closed s a (at agent None []) (record o { reading = record o.reading { turns = o.reading.turns + 1 } })
+            (read_turn o.reading);
+        uploads = λ agent x u is. upload_turns_does s event a versions y asked replied agent x u is;
+      }) is

@@ -1,0 +1,57 @@
+-- In the tree of every history no file has two locks, and a close that was completed had its lock.
+use Rattle.std.proofs.Common.{◌≡◌, ℕ, ◌+◌, List, [], ◌∷◌, ◌++◌, false, ◌∙◌, None, not, nat_lt, eqb}
+use Rattle.scfs_base.specs.declared.naming.RequestNo.{RequestNo}
+use Rattle.scfs_machine.specs.Format.{Setup}
+use Rattle.scfs_machine.specs.History.{History}
+use Rattle.scfs_machine.specs.Versions.{Versions}
+use Rattle.scfs_machine.specs.Tree.{Lock, Tree, live, lock_on, is_lock_by}
+use Rattle.scfs_machine.specs.LockSteps.{Unlock}
+use Rattle.scfs_machine.specs.SessionSteps.{session_after, new_lock}
+use Rattle.scfs_machine.specs.Steps.{Step, On_names, On_locks, On_sessions, after_ok, served}
+use Rattle.scfs_machine.specs.Runs.{state_after}
+use Rattle.scfs_machine.specs.TreeLaws.{LocksAlone}
+use Rattle.scfs_machine.proofs.NewestLists.{Pairs, eqb-comm, each-map, each-always, pairs-append, pairs-without, pairs-filter}
+use Rattle.scfs_machine.proofs.NamesSteps.{session_cases}
+use Rattle.scfs_machine.proofs.NamesEvents.{tree_always}
+use Rattle.scfs_machine.proofs.NamesApart.{fails_at_each, finds_nothing}
+
+-- two locks are on different files
+abbrev FilesApart : Lock → Lock → Type 0
+FilesApart l m = eqb m.file.0 l.file.0 ≡ false
+
+alone_of_pairs : (ls : List Lock) → Pairs FilesApart ls → LocksAlone ls
+alone_of_pairs [] h = tt
+alone_of_pairs (l ∷ ls) h = (finds_nothing _ ls h.0, alone_of_pairs ls h.1)
+
+module _ {V : Type 0} (s : Setup) (vs : Versions V) where
+  abbrev AllAlone : Tree V → Type 0
+  AllAlone tree = Pairs FilesApart tree.locks
+
+  live_alone : (now : ℕ) (tree : Tree V) → AllAlone tree → AllAlone (live now tree)
+  live_alone now tree h = pairs-filter FilesApart (λ (l : Lock). nat_lt now l.until) tree.locks h
+
+  locked_alone : (locks : List Lock) (l : Lock) → Pairs FilesApart locks → lock_on locks l.file ≡ None → Pairs FilesApart (locks ++ l ∷ [])
+  locked_alone locks l h free =
+      pairs-append FilesApart locks l h
+      (each-map (λ m. eqb m.file.0 l.file.0 ≡ false) (λ m. FilesApart m l) (λ m k. eqb-comm l.file.0 m.file.0 ∙ k) locks
+      (fails_at_each (λ m. eqb m.file.0 l.file.0) locks free))
+
+  locks_step : (tree : Tree V) (now lease : ℕ) (request : RequestNo) (step : Step V) → AllAlone tree
+      → AllAlone (served vs (live now tree) now lease request step).tree
+  locks_step tree now lease request (On_names x) h = live_alone now tree h
+  locks_step tree now lease request (On_locks (Unlock file session)) h =
+      pairs-filter FilesApart (λ (l : Lock). not (is_lock_by request file session l)) (live now tree).locks (live_alone now tree h)
+  locks_step tree now lease request (On_sessions x) h =
+      let t : Tree V = live now tree in
+      let g : AllAlone t = live_alone now tree h in
+      session_cases vs t now (now + lease) request (λ n. Unit {0}) (each-always _ (λ n. tt) t.nodes)
+      (λ r. AllAlone (after_ok t (session_after vs t request) r)) (λ why. g)
+      (λ n q. g)
+      (λ session n q free. locked_alone t.locks (new_lock request session (now + lease) n.id) g free)
+      (λ session v l n locked found. pairs-without FilesApart (is_lock_by request (vs.file (vs.completed v now)) session) t.locks g)
+      x
+
+  -- in the live tree of every history no file has two locks
+  pub locks_are_alone : (past : History) → LocksAlone (live (state_after s vs past).clock (state_after s vs past).tree).locks
+  locks_are_alone past =
+      alone_of_pairs _ (live_alone (state_after s vs past).clock (state_after s vs past).tree (tree_always s vs AllAlone locks_step tt past))

@@ -1,0 +1,173 @@
+-- What is known of the tree and of each seat after a history stays known after each event, and its opened lines are of the newest versions.
+use Rattle.std.proofs.Common.{◌≡◌, ℕ, ◌^◌, ◌≤◌, List, [], ◌∷◌, ◌++◌, length, sym, subst, ap, Some, fold, arith, slice_get}
+use Rattle.std.specs.List.{list_any}
+use Rattle.scfs_schedule.specs.declared.types.Line.{Line}
+use Rattle.scfs_machine.specs.Lists.{moved_back}
+use Rattle.scfs_machine.specs.Format.{Setup}
+use Rattle.scfs_machine.specs.History.{Entry, History}
+use Rattle.scfs_machine.specs.Versions.{Versions}
+use Rattle.scfs_machine.specs.Given.{Given}
+use Rattle.scfs_machine.specs.Tree.{Node}
+use Rattle.scfs_machine.specs.NameSteps.{Make, Look}
+use Rattle.scfs_machine.specs.Steps.{Step, On_names, On_locks, On_sessions}
+use Rattle.scfs_machine.specs.Agents.{Request, Input, Calls, Tells, Hears, Turns, Reaction}
+use Rattle.scfs_machine.specs.Reactions.{reacted}
+use Rattle.scfs_machine.specs.States.{Reply, Seat, State, Effect, leaving, comes, postpones}
+use Rattle.scfs_machine.specs.TreeLaws.{CompletionKeeps}
+use Rattle.scfs_machine.specs.Newest.{Saw_line, is_service, last_committed, after_saw, latest_saw}
+use Rattle.scfs_machine.proofs.NewestLists.{Each, Places, each-map, each-moved, pairs-moved, places_set}
+use Rattle.scfs_machine.proofs.NewestDraws.{Apart, FilesApart}
+use Rattle.scfs_machine.proofs.NewestKept.{ReplyOk, InputOk, WaitOk, wait_map, reply_map}
+use Rattle.scfs_machine.proofs.NewestTree.{TreeOk, tree_said}
+use Rattle.scfs_machine.proofs.NewestLines.{IsOfAgent, IsNoCommit, IsNoSawBy, idle_of_agent, no_commit_of-agent, no_commits, no_services}
+use Rattle.scfs_machine.proofs.NewestSeats.{KnownBy, known_on, SeatOk, seat_stays}
+use Rattle.scfs_machine.proofs.NewestSaid.{LineOk, idle_ok, idle_unseen}
+use Rattle.scfs_machine.proofs.NewestComes.{come_of_agent, come_unseen, come_lines, come_seat}
+use Rattle.scfs_machine.proofs.NamesEvents.{IsIdle, IsNoReply}
+
+module _ {V : Type 0} (vs : Versions V) where
+  -- nodes are at what was committed, and of each seat all is known
+  pub record StateOk (past : History) (state : State V) : Type 0 where
+    pub tree : TreeOk vs (λ id. last_committed id past) state.tree.nodes state.tree.versions
+    pub seats : Places (SeatOk vs past state.tree.nodes) state.seats
+
+  -- two requests are apart both ways
+  files_turned : (x y : Step V) → FilesApart x y → FilesApart y x
+  files_turned (On_names (Make names id)) (On_names (Make others other)) h = λ e. h (sym e)
+  files_turned (On_names (Make names id)) _ h = tt
+  files_turned (On_names (Look names)) (On_names (Make others other)) h = tt
+  files_turned (On_names (Look names)) _ h = tt
+  files_turned (On_locks x) (On_names (Make others other)) h = tt
+  files_turned (On_locks x) _ h = tt
+  files_turned (On_sessions x) (On_names (Make others other)) h = tt
+  files_turned (On_sessions x) _ h = tt
+
+  apart_turned : (x y : Request V) → Apart x y → Apart y x
+  apart_turned x y h = ((λ e. h.0 (sym e)), files_turned x.step y.step h.1)
+
+  -- a seat whose oldest step goes to the back
+  pub postponed_seat : (past : History) (e : Entry) (nodes : List Node) (a : ℕ) (seat : Seat V) → e.lines ≡ [] → SeatOk vs past nodes a seat
+      → SeatOk vs (e ∷ past) nodes a (record seat { asked = moved_back seat.asked })
+  postponed_seat past e nodes a seat same h =
+      let q : ℕ = seat.agent.requests in
+      let on : (saw : Saw_line) (number : ℕ) → KnownBy past a q seat.asked saw number → KnownBy (e ∷ past) a q (moved_back seat.asked) saw number =
+      known_on past e a q q seat.asked (moved_back seat.asked)
+      (λ request k. (ap (list_any (is_service request)) same, (k.0, k.1, each-moved _ seat.asked k.2)))
+      in
+      record {
+        incarnation = h.incarnation;
+        files = omega (arith, h.files);
+        ahead = h.ahead;
+        drawn = each-moved _ seat.asked h.drawn;
+        new = each-moved _ seat.asked h.new;
+        apart = pairs-moved Apart apart_turned seat.asked h.apart;
+        replied = each-map _ _ (λ y. reply_map vs a _ _ on y.number y.outcome) seat.replied h.replied;
+        waiting = subst (λ latest. WaitOk vs a (KnownBy (e ∷ past) a q (moved_back seat.asked)) latest seat.agent.waiting)
+            (sym (ap (fold (after_saw a) (latest_saw a past)) same)) (wait_map vs a _ _ on (latest_saw a past) seat.agent.waiting h.waiting);
+      }
+
+  -- a seat with one reply less
+  pub told_seat : (past : History) (nodes : List Node) (a : ℕ) (seat : Seat V) (oldest : Reply V) (rest : List (Reply V))
+      → seat.replied ≡ oldest ∷ rest
+      → SeatOk vs past nodes a seat
+      → SeatOk vs past nodes a (record seat { replied = rest }) × ReplyOk vs a
+      (KnownBy past a seat.agent.requests seat.asked) oldest.number oldest.outcome
+  told_seat past nodes a seat oldest rest same h =
+      let g : SeatOk vs past nodes a (record seat { replied = oldest ∷ rest }) = subst
+      (λ xs. SeatOk vs past nodes a (record seat { replied = xs })) same h in (
+        record {
+          incarnation = g.incarnation;
+          files = g.files;
+          ahead = g.ahead;
+          drawn = g.drawn;
+          new = g.new;
+          apart = g.apart;
+          replied = g.replied.1;
+          waiting = g.waiting;
+        },
+        g.replied.0,
+      )
+
+-- after an event
+module _ {V : Type 0} (s : Setup) (vs : Versions V) (keeps : CompletionKeeps vs) (past : History) (e : Entry) (state : State V) (given : Given)
+    (small : length (e ∷ past) ≤ 2 ^ 32) (h : StateOk vs past state) where
+  abbrev N : List Node
+  N = state.tree.nodes
+
+  -- all is known after an effect, and its opened lines are of the newest versions, where the entry has its lines
+  abbrev pub IsFine : Effect V → Type 0
+  IsFine x = e.lines ≡ x.lines → StateOk vs (e ∷ past) x.state × Each (LineOk past e) e.lines
+
+  quiet_tree : Each IsOfAgent e.lines → TreeOk vs (λ id. last_committed id (e ∷ past)) N state.tree.versions
+  quiet_tree quiet =
+      tree_said vs (λ id. last_committed id past) (λ id. last_committed id (e ∷ past)) N state.tree.versions
+      (λ id. no_commits id (last_committed id past) e.lines (each-map IsOfAgent IsNoCommit no_commit_of-agent e.lines quiet)) h.tree
+
+  quiet_seat : Each IsOfAgent e.lines → (b : ℕ) → Each (IsNoSawBy b) e.lines → (y : Seat V) → slice_get state.seats b ≡ Some y
+      → SeatOk vs (e ∷ past) N b y
+  quiet_seat quiet b unseen y found =
+      let g : SeatOk vs past N b y = h.seats b y found in
+      seat_stays vs past e N N b y g g.ahead g.new (λ request k. no_services request e.lines quiet) unseen
+
+  pub fine_nothing : (shown : List Line) → Each IsIdle shown → IsFine (leaving state shown)
+  fine_nothing shown idle same =
+      let idle_lines : Each IsIdle e.lines = subst (Each IsIdle) (sym same) idle in
+      let quiet : Each IsOfAgent e.lines = each-map IsIdle IsOfAgent idle_of_agent e.lines idle_lines in (
+        record {
+          tree = quiet_tree quiet;
+          seats = λ b y found. quiet_seat quiet b (each-map IsIdle (IsNoSawBy b) (idle_unseen b) e.lines idle_lines) y found;
+        },
+        each-map IsIdle (LineOk past e) (idle_ok past e) e.lines idle_lines,
+      )
+
+  fine_comes : (a : ℕ) (old seat : Seat V) (before : List Line) (input : Input V) → slice_get state.seats a ≡ Some old → SeatOk vs past N a seat
+      → Each IsIdle before
+      → InputOk vs a (KnownBy past a seat.agent.requests seat.asked) input → IsFine (comes s vs state a given before input seat)
+  fine_comes a old seat before input found g idle fits same =
+      let quiet : Each IsOfAgent e.lines = come_of_agent s vs past e N state a seat given before input idle same small g fits in
+      let r : Reaction V = reacted s vs a seat.agent given input in (
+        record {
+          tree = quiet_tree quiet;
+          seats = places_set (SeatOk vs (e ∷ past) N) state.seats a old (record seat { agent = r.agent; asked = seat.asked ++ r.steps }) found
+              (come_seat s vs past e N state a seat given before input idle same small g fits)
+              (λ b other y there. quiet_seat quiet b
+              (come_unseen s vs past e N state a seat given before input idle same small g fits b other) y there);
+        },
+        come_lines s vs past e N state a seat given before input idle same small g fits,
+      )
+
+  no_reply : (a : ℕ) (K : Saw_line → (number : ℕ) → Type 0) (input : Input V) → IsNoReply input → InputOk vs a K input
+  no_reply a K (Calls call) k = tt
+  no_reply a K (Tells request o) k = absurd k
+  no_reply a K (Hears c request answer) k = tt
+  no_reply a K Turns k = tt
+
+  pub fine_come : (a : ℕ) (seat : Seat V) (before : List Line) (input : Input V) → slice_get state.seats a ≡ Some seat → Each IsIdle before
+      → IsNoReply input
+      → IsFine (comes s vs state a given before input seat)
+  fine_come a seat before input found idle k =
+      fine_comes a seat seat before input found (h.seats a seat found) idle (no_reply a (KnownBy past a seat.agent.requests seat.asked) input k)
+
+  pub fine_told : (a : ℕ) (seat : Seat V) (oldest : Reply V) (rest : List (Reply V)) → slice_get state.seats a ≡ Some seat
+      → seat.replied ≡ oldest ∷ rest
+      → IsFine (comes s vs state a given [] (Tells oldest.number oldest.outcome) (record seat { replied = rest }))
+  fine_told a seat oldest rest found is =
+      let both : SeatOk vs past N a (record seat { replied = rest }) × ReplyOk vs a
+      (KnownBy past a seat.agent.requests seat.asked) oldest.number oldest.outcome =
+      told_seat vs past N a seat oldest rest is (h.seats a seat found)
+      in
+      fine_comes a seat (record seat { replied = rest }) [] (Tells oldest.number oldest.outcome) found both.0 tt both.1
+
+  pub fine_postpone : (a : ℕ) (seat : Seat V) (oldest : Request V) (rest : List (Request V)) → slice_get state.seats a ≡ Some seat
+      → seat.asked ≡ oldest ∷ rest
+      → IsFine (postpones state a seat (oldest ∷ rest))
+  fine_postpone a seat oldest rest found is same =
+      let quiet : Each IsOfAgent e.lines = subst (Each IsOfAgent) (sym same) tt in (
+        record {
+          tree = quiet_tree quiet;
+          seats = places_set (SeatOk vs (e ∷ past) N) state.seats a seat (record seat { asked = moved_back seat.asked }) found
+              (postponed_seat vs past e N a seat same (h.seats a seat found))
+              (λ b other y there. quiet_seat quiet b (subst (Each (IsNoSawBy b)) (sym same) tt) y there);
+        },
+        subst (Each (LineOk past e)) (sym same) tt,
+      )
