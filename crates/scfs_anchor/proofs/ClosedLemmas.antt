@@ -74,21 +74,29 @@ came_stays now most items request session v is low closing l n e at =
     let newest : n.newest ≡ base = number_eq n.newest base (second_true (eqb n.id.0 v.file.0) _ (found_passes test (nodes items) n e)) in
     let under_most : n.newest ≤ most = each_found (λ (m : Node). m.newest ≤ most) test (nodes items) is.few n e in
     let node = each_found (λ m. IsNode (node_said m)) test (nodes items) (nodes_fit now items is.valid.ranges) n e in
-    let close : Close test (nodes items) (versions items) n w = record { whole = whole_of now items is.valid; found = e; file = at.1; id = sym at.0; number = omega arith } in
+    let close : Close test (nodes items)
+    (versions items) n w = record { whole = whole_of now items is.valid; found = e; file = at.1; id = sym at.0; number = omega arith } in
     let Fits = λ (x : Item). IsEntry now (entry_of x) in
     finish now (most + 1) (left ++ put) (moved test (nodes items) new) (without_first own (locks items)) (versions items ++ w ∷ [])
-    (filter_map-append item.node_of left put ∙ ap (λ ns. ns ++ new ∷ []) (nodes_moved v.file base unlocked ∙ ap (without_first test) (nodes_unlocked request v.file session items)))
-    (filter_map-append item.lock_of left put ∙ append-nil (locks left) ∙ locks_moved v.file base unlocked ∙ locks_unlocked request v.file session items)
-    (filter_map-append item.version_of left put ∙ ap (λ vs. vs ++ w ∷ []) (versions_moved v.file base unlocked ∙ versions_unlocked request v.file session items))
+    (filter_map-append item.node_of left put ∙ ap (λ ns. ns ++ new ∷ [])
+    (nodes_moved v.file base unlocked ∙ ap (without_first test) (nodes_unlocked request v.file session items)))
+    (filter_map-append item.lock_of left put ∙ append-nil (locks left) ∙ locks_moved v.file base unlocked
+    ∙ locks_unlocked request v.file session items)
+    (filter_map-append item.version_of left put ∙ ap (λ vs. vs ++ w ∷ [])
+    (versions_moved v.file base unlocked ∙ versions_unlocked request v.file session items))
     (fit_items now (left ++ put) (each_append Fits left put
-    (each_without Fits (is_node_item v.file base) unlocked (each_without Fits (is_lock_item request v.file session) items (items_fit now items is.valid.ranges)))
+    (each_without Fits (is_node_item v.file base) unlocked
+    (each_without Fits (is_lock_item request v.file session) items (items_fit now items is.valid.ranges)))
     (record { id = node.id; parent = node.parent; newest = omega arith; size = short }, (row_fits now request v (omega arith) closing, tt))))
     (close_whole close)
     (apart_without same_lock own (locks items) is.apart)
     (each_without (λ (l : Lock). Each (λ (m : Node). m.id.0 ≡ l.file.0 → m.kind ≡ File) (moved test (nodes items) new)) own (locks items)
-    (each_also (λ (l : Lock). Each (λ (m : Node). m.id.0 ≡ l.file.0 → m.kind ≡ File) (nodes items)) (λ (l : Lock). Each (λ (m : Node). m.id.0 ≡ l.file.0 → m.kind ≡ File) (moved test (nodes items) new))
-    (λ l h. each_append (λ (m : Node). m.id.0 ≡ l.file.0 → m.kind ≡ File) (without_first test (nodes items)) (new ∷ []) (each_without (λ (m : Node). m.id.0 ≡ l.file.0 → m.kind ≡ File) test (nodes items) h) ((λ i. at.1), tt)) (locks items) is.files))
-    (each_append (λ (m : Node). m.newest ≤ most + 1) (without_first test (nodes items)) (new ∷ []) (each_without (λ (m : Node). m.newest ≤ most + 1) test (nodes items) (more most (nodes items) is.few)) (omega arith, tt))
+    (each_also (λ (l : Lock). Each (λ (m : Node). m.id.0 ≡ l.file.0 → m.kind ≡ File) (nodes items))
+    (λ (l : Lock). Each (λ (m : Node). m.id.0 ≡ l.file.0 → m.kind ≡ File) (moved test (nodes items) new))
+    (λ l h. each_append (λ (m : Node). m.id.0 ≡ l.file.0 → m.kind ≡ File) (without_first test (nodes items)) (new ∷ [])
+    (each_without (λ (m : Node). m.id.0 ≡ l.file.0 → m.kind ≡ File) test (nodes items) h) ((λ i. at.1), tt)) (locks items) is.files))
+    (each_append (λ (m : Node). m.newest ≤ most + 1) (without_first test (nodes items)) (new ∷ [])
+    (each_without (λ (m : Node). m.newest ≤ most + 1) test (nodes items) (more most (nodes items) is.few)) (omega arith, tt))
 
 by_found : (now most : ℕ) (items : List Item) (request : RequestNo) (session : ℕ) (v : Row) → Before now most items → most < 1000000
     → IsClosing request v → (o : Option Lock) (n : Option Node) → node_at (nodes items) v.file (v.number - 1) ≡ n

@@ -99,11 +99,12 @@ pub nodes_unlocked : (request : RequestNo) (file : FileId) (session : ℕ) (item
 nodes_unlocked request file session [] = refl
 nodes_unlocked request file session (Of_node n ∷ items) = ap (λ ns. n ∷ ns) (nodes_unlocked request file session items)
 nodes_unlocked request file session (Of_version v ∷ items) = nodes_unlocked request file session items
-nodes_unlocked request file session (Of_lock l ∷ items) = here (is_lock_by request file session l) refl (nodes_unlocked request file session items) where
-  here : (t : Bool) → is_lock_by request file session l ≡ t → nodes (without_first (is_lock_item request file session) items) ≡ nodes items
-      → nodes (without_first (is_lock_item request file session) (Of_lock l ∷ items)) ≡ nodes (Of_lock l ∷ items)
-  here true e rest = rw e refl
-  here false e rest = rw e rest
+nodes_unlocked request file session (Of_lock l ∷ items) =
+    here (is_lock_by request file session l) refl (nodes_unlocked request file session items) where
+      here : (t : Bool) → is_lock_by request file session l ≡ t → nodes (without_first (is_lock_item request file session) items) ≡ nodes items
+          → nodes (without_first (is_lock_item request file session) (Of_lock l ∷ items)) ≡ nodes (Of_lock l ∷ items)
+      here true e rest = rw e refl
+      here false e rest = rw e rest
 
 -- what the conditions of a commit come to
 abbrev came : List Item → Option Lock → Option Node → Tested
@@ -129,7 +130,8 @@ node_tested items file base l files o e =
     (first_met ws [] test binds_place items all ∙ ap (option_map (met binds_place)) (node_item file base items ∙ ap (option_map Of_node) e))
     ∙ by o where
       by : (o : Option Node)
-          → need (option_map (met binds_place) (option_map Of_node o)) 1 (λ (m : Match). Passed m.bound 0 (matching.without_first (node_wants file base) (space_of items) []))
+          → need (option_map (met binds_place) (option_map Of_node o)) 1
+          (λ (m : Match). Passed m.bound 0 (matching.without_first (node_wants file base) (space_of items) []))
           ≡ came (without_first (is_node_item file base) items) (Some l) o
       by None = refl
       by (Some n) =
@@ -149,16 +151,20 @@ commit_tested items request file session base agent incarnation ea ei o e files 
     (first_met ws [] test binds_none items all ∙ ap (option_map (met binds_none)) (lock_item request file session items ∙ ap (option_map Of_lock) e))
     ∙ by o files where
       by : (o : Option Lock) → ((l : Lock) → o ≡ Some l → Each (IsFileAt file) (nodes items))
-          → need (option_map (met binds_none) (option_map Of_lock o)) 0 (λ (m : Match). tested (node_cond file base) 1 (matching.without_first (lock_wants file agent incarnation session) (space_of items) []) m.bound 0)
+          → need (option_map (met binds_none) (option_map Of_lock o)) 0
+          (λ (m : Match). tested (node_cond file base) 1
+          (matching.without_first (lock_wants file agent incarnation session) (space_of items) []) m.bound 0)
           ≡ came (opened_up items request file session base) o (node_at (nodes items) file base)
       by None files = refl
       by (Some l) files =
           let test = is_lock_item request file session in
           let left = without_first test items in
-          let all = each_of (Meets (lock_wants file agent incarnation session) [] test binds_none) (lock_meets request file session agent incarnation ea ei) items in
+          let all = each_of (Meets (lock_wants file agent incarnation session) [] test binds_none)
+          (lock_meets request file session agent incarnation ea ei) items in
           let same = nodes_unlocked request file session items in
           ap (λ ts. tested (node_cond file base) 1 ts [] 0) (without_met (lock_wants file agent incarnation session) [] test binds_none items all)
-          ∙ node_tested left file base l (subst (Each (IsFileAt file)) (sym same) (files l refl)) (node_at (nodes items) file base) (ap (λ (ns : List Node). node_at ns file base) same)
+          ∙ node_tested left file base l (subst (Each (IsFileAt file)) (sym same) (files l refl)) (node_at (nodes items) file base)
+          (ap (λ (ns : List Node). node_at ns file base) same)
 
 -- a node of this file
 abbrev pub AtFile : FileId → Option Node → Type 0
@@ -217,7 +223,8 @@ came_to now lease items request session v (Some l) (Some n) at h =
     let new : Node = with_version rows n w in
     let step = step_of (session_plan lease request (Commit session v)) in
     let is = at l refl in (
-      subst (λ (t : Tested). IsSessionReply lease request (Commit session v) (committed now session v (Some l) (Some n)) (record { now = now; result = result_of t ts step.all })) (sym h) tt,
+      subst (λ (t : Tested). IsSessionReply lease request (Commit session v) (committed now session v (Some l) (Some n))
+          (record { now = now; result = result_of t ts step.all })) (sym h) tt,
       ap (λ t. left_by t now ts step.puts) h
           ∙ ap (λ id. space_of left ++ node_put n v id 1 ∷ said (Of_version w) ∷ []) (sym is.0)
           ∙ ap (λ kind. space_of left ++ node_put n v n.id.0 (kind_number kind) ∷ said (Of_version w) ∷ []) (sym is.1)
@@ -232,7 +239,8 @@ pub commit_alike : (now lease : ℕ) (items : List Item) (request : RequestNo) (
 commit_alike now lease items request session v ea ei files =
     let lock = session_lock (locks items) request v.file session in
     let all = held_files request v.file session (nodes items) (locks items) files in
-    came_to now lease items request session v lock (node_at (nodes items) v.file (v.number - 1)) (λ l e. found_at v.file (v.number - 1) (nodes items) (all l e))
+    came_to now lease items request session v lock (node_at (nodes items) v.file (v.number - 1))
+    (λ l e. found_at v.file (v.number - 1) (nodes items) (all l e))
     (commit_tested items request v.file session (v.number - 1) v.upload.agent v.upload.incarnation ea ei lock refl all)
 
 committed_fits : (now session : ℕ) (v : Row) (o : Option Lock) (n : Option Node) → FitsSessions (Commit session v) (committed now session v o n)

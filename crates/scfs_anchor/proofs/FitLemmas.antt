@@ -106,14 +106,16 @@ one_by request file session (l ∷ ls) h =
       here t false e f rest = rw f rest
       here false true e f rest = absurd (let clash : false ≡ true = rw e at f in cc)
       here true true e f rest =
-          let none = none_by request file session ls (subst (λ (i : ℕ). list_any (λ (x : anchor.Lock). eqb i x.file.0) (map lock_said ls) ≡ false) (number_eq l.file.0 file.0 e) h.0) in
+          let none = none_by request file session ls
+          (subst (λ (i : ℕ). list_any (λ (x : anchor.Lock). eqb i x.file.0) (map lock_said ls) ≡ false) (number_eq l.file.0 file.0 e) h.0) in
           rw f (omega arith)
 
 -- the locks of items without ended locks are of different files
 pub locks_apart : (now : ℕ) (items : List Item) → IsTree now (entries_of (live now items))
     → Apart (λ a b. anchor.same_file a.file b.file) (map lock_said (locks (live now items)))
 locks_apart now items is =
-    let again : anchor.live_entries now (entries_of (live now items)) ≡ entries_of (live now items) = ap (anchor.live_entries now) (sym (live_said now items)) ∙ live_again now (entries_of items) ∙ live_said now items in
+    let again : anchor.live_entries now (entries_of (live now items)) ≡ entries_of (live now items) = ap (anchor.live_entries now)
+    (sym (live_said now items)) ∙ live_again now (entries_of items) ∙ live_said now items in
     subst (Apart (λ a b. anchor.same_file a.file b.file)) (ap anchor.locks_of again ∙ locks_said (live now items)) is.locks
 
 pub locks_fit : (now : ℕ) (items : List Item) (request : RequestNo) (x : Lock_step) → IsTree now (entries_of (live now items))

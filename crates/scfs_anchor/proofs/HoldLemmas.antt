@@ -44,7 +44,8 @@ still_live now later after [] = refl
 still_live now later after (l ∷ ls) = here (nat_lt now l.until) (nat_lt later l.until) refl refl (still_live now later after ls) where
   here : (t u : Bool) → nat_lt now l.until ≡ t → nat_lt later l.until ≡ u
       → filter (λ (l : Lock). nat_lt later l.until) (filter (λ (l : Lock). nat_lt now l.until) ls) ≡ filter (λ (l : Lock). nat_lt later l.until) ls
-      → filter (λ (l : Lock). nat_lt later l.until) (filter (λ (l : Lock). nat_lt now l.until) (l ∷ ls)) ≡ filter (λ (l : Lock). nat_lt later l.until) (l ∷ ls)
+      → filter (λ (l : Lock). nat_lt later l.until) (filter (λ (l : Lock). nat_lt now l.until) (l ∷ ls)) ≡ filter (λ (l : Lock). nat_lt later l.until)
+      (l ∷ ls)
   here true true e f rest = rw (e, f) (ap (λ x. l ∷ x) rest)
   here true false e f rest = rw (e, f) rest
   here false true e f rest = absurd (earlier e f) where
@@ -63,14 +64,17 @@ later_item now later after (Of_version v) h =
 live_apart : (now : ℕ) (items : List Item) → IsTree now (entries_of items) → Apart same_lock (filter (λ (l : Lock). nat_lt now l.until) (locks items))
 live_apart now items is =
     apart_unmap lock_said (λ a b. anchor.same_file a.file b.file) (filter (λ (l : Lock). nat_lt now l.until) (locks items))
-    (subst (Apart (λ a b. anchor.same_file a.file b.file)) (ap anchor.locks_of (live_said now items) ∙ locks_said (live now items) ∙ ap (map lock_said) (locks_live now items)) is.locks)
+    (subst (Apart (λ a b. anchor.same_file a.file b.file))
+    (ap anchor.locks_of (live_said now items) ∙ locks_said (live now items) ∙ ap (map lock_said) (locks_live now items)) is.locks)
 
 -- items stand for a tree at a later moment too
 later_stands : (now later : ℕ) (items : List Item) → IsTree now (entries_of items) → now ≤ later → IsTree later (entries_of items)
 later_stands now later items is after =
     let lives = λ (l : Lock). nat_lt later l.until in
-    let apart = subst (Apart same_lock) (still_live now later after (locks items)) (apart_filter same_lock lives (filter (λ (l : Lock). nat_lt now l.until) (locks items)) (live_apart now items is)) in
-    let ranges = each_also (λ x. IsEntry now (entry_of x)) (λ x. IsEntry later (entry_of x)) (later_item now later after) items (each_unmap entry_of (IsEntry now) items is.ranges) in
+    let apart = subst (Apart same_lock) (still_live now later after (locks items))
+    (apart_filter same_lock lives (filter (λ (l : Lock). nat_lt now l.until) (locks items)) (live_apart now items is)) in
+    let ranges = each_also (λ x. IsEntry now (entry_of x)) (λ x. IsEntry later (entry_of x)) (later_item now later after) items
+    (each_unmap entry_of (IsEntry now) items is.ranges) in
     stands_live later items (each_map entry_of (IsEntry later) items ranges) apart (whole_of now items is)
 
 pub holds_on : HoldsOn
@@ -90,7 +94,8 @@ empty_holds now =
       items = [];
       said = refl;
       meant = refl;
-      valid = record { ranges = tt; ids = tt; places = tt; locks = tt; versions = tt; gone = tt; newest = tt; numbers = tt; owners = tt; buried = tt };
+      valid =
+          record { ranges = tt; ids = tt; places = tt; locks = tt; versions = tt; gone = tt; newest = tt; numbers = tt; owners = tt; buried = tt };
       files = tt;
       few = tt;
     }
@@ -103,17 +108,21 @@ live_before now most items is files few =
     let same = sym (nodes_live now items) in
     let lives = λ (l : Lock). nat_lt now l.until in
     let apart = subst (Apart same_lock) (sym (locks_live now items)) (live_apart now items is) in
-    let again : filter lives (locks T) ≡ locks T = ap (filter lives) (locks_live now items) ∙ still_live now now (omega arith) (locks items) ∙ sym (locks_live now items) in
+    let again : filter lives (locks T) ≡ locks T = ap (filter lives) (locks_live now items) ∙ still_live now now (omega arith) (locks items) ∙ sym
+    (locks_live now items) in
     record {
       valid =
           stands_live now T
-          (each_map entry_of (IsEntry now) T (each_filter (λ x. IsEntry now (entry_of x)) (is_live now) items (each_unmap entry_of (IsEntry now) items is.ranges)))
+          (each_map entry_of (IsEntry now) T
+          (each_filter (λ x. IsEntry now (entry_of x)) (is_live now) items (each_unmap entry_of (IsEntry now) items is.ranges)))
           (subst (Apart same_lock) (sym again) apart)
-          (subst (λ (ns : List Node). Whole ns (versions T)) same (subst (λ (vs : List Row). Whole (nodes items) vs) (sym (versions_live now items)) (whole_of now items is)));
+          (subst (λ (ns : List Node). Whole ns (versions T)) same
+          (subst (λ (vs : List Row). Whole (nodes items) vs) (sym (versions_live now items)) (whole_of now items is)));
       apart = apart;
       files =
           subst (λ (ns : List Node). LockFiles ns (locks T)) same
-          (subst (LockFiles (nodes items)) (sym (locks_live now items)) (each_filter (λ (l : Lock). Each (λ (n : Node). n.id.0 ≡ l.file.0 → n.kind ≡ kinds.File) (nodes items)) lives (locks items) files));
+          (subst (LockFiles (nodes items)) (sym (locks_live now items))
+          (each_filter (λ (l : Lock). Each (λ (n : Node). n.id.0 ≡ l.file.0 → n.kind ≡ kinds.File) (nodes items)) lives (locks items) files));
       few = subst (HaveAtMost most) same few;
     }
 
@@ -138,7 +147,8 @@ each_does now most lease items request (On_names (Make names id)) is low from as
       tuples = alike.1;
       stays =
           subst (λ (r : OrRefusal Name_outcome). Stays now (most + 1) (after_ok T (name_items T) r) (tree_named T r)) (sym walks)
-          (make_stays now most T names id is ask.1 fresh (directory_at (anchor.nodes_of es) root names) (directory_fits now es is.valid.ranges names root (omega arith)));
+          (make_stays now most T names id is ask.1 fresh (directory_at (anchor.nodes_of es) root names)
+          (directory_fits now es is.valid.ranges names root (omega arith)));
       reply = alike.0;
       fits = make_fits now T names id is.valid ask.0 ask.1;
     }
@@ -243,4 +253,5 @@ steps_serve_alike now most lease tuples tree request step is low from ask fresh 
     let new = subst (λ (t : Tree Row). IsFresh t.nodes step) is.meant fresh in
     let done = over_items now most lease items request step is.valid files few low from ask new in
     subst (λ (t : Tree Row). ServesAlike now most lease tuples request step (served rows (machine.live now t) now lease request step)) (sym is.meant)
-    (subst (λ (ts : List Tuple). ServesAlike now most lease ts request step (served rows (machine.live now (tree_of items)) now lease request step)) (sym is.said) done)
+    (subst (λ (ts : List Tuple). ServesAlike now most lease ts request step (served rows (machine.live now (tree_of items)) now lease request step))
+    (sym is.said) done)

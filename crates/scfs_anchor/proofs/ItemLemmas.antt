@@ -147,7 +147,8 @@ pub node_found : (items : List Item) (d : FileId) (name : List ℕ)
     → anchor.node_at (anchor.nodes_of (entries_of items)) d.0 name ≡ option_map node_said (node_in (nodes items) d name)
 node_found items d name =
     ap (λ ns. anchor.node_at ns d.0 name) (nodes_said items)
-    ∙ find_map node_said (λ (n : anchor.Node). eqb d.0 n.parent.0 && bytes_eq name n.name) (λ (n : Node). same_file n.parent d && bytes_eq n.name name)
+    ∙ find_map node_said (λ (n : anchor.Node). eqb d.0 n.parent.0 && bytes_eq name n.name)
+    (λ (n : Node). same_file n.parent d && bytes_eq n.name name)
     (λ n. both_same _ _ _ _ (eqb_sym d.0 n.parent.0) (bytes_sym name n.name)) (nodes items)
 
 pub version_found : (items : List Item) (id : FileId) (v : ℕ)

@@ -24,34 +24,42 @@ abbrev pub met : (Item → List Field) → Item → Match
 met binds x = record { tuple = said x; bound = binds x }
 
 -- the first match is the first item that passes
-pub first_met : (ws : List Want) (bound : List Field) (test : Item → Bool) (binds : Item → List Field) (items : List Item) → Each (Meets ws bound test binds) items → first_match ws (space_of items) bound ≡ option_map (met binds) (find test items)
+pub first_met : (ws : List Want) (bound : List Field) (test : Item → Bool) (binds : Item → List Field) (items : List Item)
+    → Each (Meets ws bound test binds) items → first_match ws (space_of items) bound ≡ option_map (met binds) (find test items)
 first_met ws bound test binds [] h = refl
 first_met ws bound test binds (x ∷ items) h = here (test x) refl (first_met ws bound test binds items h.1) where
-  here : (t : Bool) → test x ≡ t → first_match ws (space_of items) bound ≡ option_map (met binds) (find test items) → first_match ws (space_of (x ∷ items)) bound ≡ option_map (met binds) (find test (x ∷ items))
+  here : (t : Bool) → test x ≡ t → first_match ws (space_of items) bound ≡ option_map (met binds) (find test items)
+      → first_match ws (space_of (x ∷ items)) bound ≡ option_map (met binds) (find test (x ∷ items))
   here true e rest = rw (h.0, e) refl
   here false e rest = rw (h.0, e) rest
 
 -- what is left without it
-pub without_met : (ws : List Want) (bound : List Field) (test : Item → Bool) (binds : Item → List Field) (items : List Item) → Each (Meets ws bound test binds) items → matching.without_first ws (space_of items) bound ≡ space_of (without_first test items)
+pub without_met : (ws : List Want) (bound : List Field) (test : Item → Bool) (binds : Item → List Field) (items : List Item)
+    → Each (Meets ws bound test binds) items → matching.without_first ws (space_of items) bound ≡ space_of (without_first test items)
 without_met ws bound test binds [] h = refl
 without_met ws bound test binds (x ∷ items) h = here (test x) refl (without_met ws bound test binds items h.1) where
-  here : (t : Bool) → test x ≡ t → matching.without_first ws (space_of items) bound ≡ space_of (without_first test items) → matching.without_first ws (space_of (x ∷ items)) bound ≡ space_of (without_first test (x ∷ items))
+  here : (t : Bool) → test x ≡ t → matching.without_first ws (space_of items) bound ≡ space_of (without_first test items)
+      → matching.without_first ws (space_of (x ∷ items)) bound ≡ space_of (without_first test (x ∷ items))
   here true e rest = rw (h.0, e) refl
   here false e rest = rw (h.0, e) (ap (λ ts. said x ∷ ts) rest)
 
 -- as many match as pass
-pub count_met : (ws : List Want) (bound : List Field) (test : Item → Bool) (binds : Item → List Field) (items : List Item) → Each (Meets ws bound test binds) items → length (matches ws (space_of items) bound) ≡ length (filter test items)
+pub count_met : (ws : List Want) (bound : List Field) (test : Item → Bool) (binds : Item → List Field) (items : List Item)
+    → Each (Meets ws bound test binds) items → length (matches ws (space_of items) bound) ≡ length (filter test items)
 count_met ws bound test binds [] h = refl
 count_met ws bound test binds (x ∷ items) h = here (test x) refl (count_met ws bound test binds items h.1) where
-  here : (t : Bool) → test x ≡ t → length (matches ws (space_of items) bound) ≡ length (filter test items) → length (matches ws (space_of (x ∷ items)) bound) ≡ length (filter test (x ∷ items))
+  here : (t : Bool) → test x ≡ t → length (matches ws (space_of items) bound) ≡ length (filter test items)
+      → length (matches ws (space_of (x ∷ items)) bound) ≡ length (filter test (x ∷ items))
   here true e rest = rw (h.0, e) (ap suc rest)
   here false e rest = rw (h.0, e) rest
 
 -- what is left without all of them
-pub without_all_met : (ws : List Want) (bound : List Field) (test : Item → Bool) (binds : Item → List Field) (items : List Item) → Each (Meets ws bound test binds) items → without_matches ws (space_of items) bound ≡ space_of (filter (λ x. not (test x)) items)
+pub without_all_met : (ws : List Want) (bound : List Field) (test : Item → Bool) (binds : Item → List Field) (items : List Item)
+    → Each (Meets ws bound test binds) items → without_matches ws (space_of items) bound ≡ space_of (filter (λ x. not (test x)) items)
 without_all_met ws bound test binds [] h = refl
 without_all_met ws bound test binds (x ∷ items) h = here (test x) refl (without_all_met ws bound test binds items h.1) where
-  here : (t : Bool) → test x ≡ t → without_matches ws (space_of items) bound ≡ space_of (filter (λ x. not (test x)) items) → without_matches ws (space_of (x ∷ items)) bound ≡ space_of (filter (λ x. not (test x)) (x ∷ items))
+  here : (t : Bool) → test x ≡ t → without_matches ws (space_of items) bound ≡ space_of (filter (λ x. not (test x)) items)
+      → without_matches ws (space_of (x ∷ items)) bound ≡ space_of (filter (λ x. not (test x)) (x ∷ items))
   here true e rest = rw (h.0, e) rest
   here false e rest = rw (h.0, e) (ap (λ ts. said x ∷ ts) rest)
 

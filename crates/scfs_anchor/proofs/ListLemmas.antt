@@ -118,14 +118,17 @@ apart_append R (x ∷ xs) y h other = (
 )
 
 -- none of the others goes with the first that passes
-pub each_apart : {X : Type 0} (R : X → X → Bool) → ((a b : X) → R a b ≡ R b a) → (p : X → Bool) (xs : List X) → Apart R xs → (n : X) → find p xs ≡ Some n → Each (λ x. R x n ≡ false) (without_first p xs)
+pub each_apart : {X : Type 0} (R : X → X → Bool) → ((a b : X) → R a b ≡ R b a) → (p : X → Bool) (xs : List X) → Apart R xs → (n : X)
+    → find p xs ≡ Some n → Each (λ x. R x n ≡ false) (without_first p xs)
 each_apart R swap p [] h n e = tt
 each_apart {X = X} R swap p (x ∷ xs) h n e = here (λ rest. each_apart R swap p xs h.1 n rest) (p x) refl where
-  here : (find p xs ≡ Some n → Each (λ x. R x n ≡ false) (without_first p xs)) → (t : Bool) → p x ≡ t → Each (λ x. R x n ≡ false) (without_first p (x ∷ xs))
+  here : (find p xs ≡ Some n → Each (λ x. R x n ≡ false) (without_first p xs)) → (t : Bool) → p x ≡ t
+      → Each (λ x. R x n ≡ false) (without_first p (x ∷ xs))
   here later true f =
       let same : Some x ≡ Some n = rw f at e in
       let one : x ≡ n = cc in
-      rw f (subst (λ (m : X). Each (λ y. R y m ≡ false) xs) one (each_also (λ y. R x y ≡ false) (λ y. R y x ≡ false) (λ y k. swap y x ∙ k) xs (each_other (R x) xs h.0)))
+      rw f (subst (λ (m : X). Each (λ y. R y m ≡ false) xs) one
+      (each_also (λ y. R x y ≡ false) (λ y. R y x ≡ false) (λ y k. swap y x ∙ k) xs (each_other (R x) xs h.0)))
   here later false f =
       let found : find p xs ≡ Some n = rw f at e in
       rw f (each_found (λ y. R x y ≡ false) p xs (each_other (R x) xs h.0) n found, later found)

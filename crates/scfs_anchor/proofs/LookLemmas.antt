@@ -68,10 +68,21 @@ node_fits at d bound name size is n true true e k =
     let second : length b1 ≡ at + 1 = simp length-append (omega arith) in
     let third : length b2 ≡ at + 2 = simp length-append (omega arith) in
     let fourth : length b3 ≡ at + 3 = simp length-append (omega arith) in
-    rw (next_free bound at size, dir_meets at d b1 (dir_stays at d bound (Num n.id.0 ∷ []) is) n.parent.0, e, k, next_free b1 (at + 1) second, next_free b2 (at + 2) third, next_free b3 (at + 3) fourth)
+    rw (
+      next_free bound at size,
+      dir_meets at d b1 (dir_stays at d bound (Num n.id.0 ∷ []) is) n.parent.0,
+      e,
+      k,
+      next_free b1
+          (at + 1) second,
+      next_free b2 (at + 2) third,
+      next_free b3 (at + 3) fourth,
+    )
     (ap (λ b. Some b) (four_behind bound (Num n.id.0) (Num (kind_number n.kind)) (Num n.newest) (Num n.size)))
-node_fits at d bound name size is n true false e k = rw (next_free bound at size, dir_meets at d (bound ++ Num n.id.0 ∷ []) (dir_stays at d bound (Num n.id.0 ∷ []) is) n.parent.0, e, k) refl
-node_fits at d bound name size is n false u e k = rw (next_free bound at size, dir_meets at d (bound ++ Num n.id.0 ∷ []) (dir_stays at d bound (Num n.id.0 ∷ []) is) n.parent.0, e) refl
+node_fits at d bound name size is n true false e k =
+    rw (next_free bound at size, dir_meets at d (bound ++ Num n.id.0 ∷ []) (dir_stays at d bound (Num n.id.0 ∷ []) is) n.parent.0, e, k) refl
+node_fits at d bound name size is n false u e k =
+    rw (next_free bound at size, dir_meets at d (bound ++ Num n.id.0 ∷ []) (dir_stays at d bound (Num n.id.0 ∷ []) is) n.parent.0, e) refl
 
 -- the pattern meets the node of the name, where there is one
 first_seen : (at d : ℕ) (bound : List Field) (name : List ℕ) → length bound ≡ at → IsDirectory at d bound → (es : List Entry)
@@ -139,4 +150,5 @@ look_alike now items (name ∷ names) is =
     let es = entries_of items in
     subst (λ (r : OrRefusal Name_outcome). NamesAlike now items (Look (name ∷ names)) r) (sym (look_walks items name names))
     (looked now items name names (directory_at (nodes_of es) root (name ∷ names))
-    (path_reaches there (name ∷ names) 0 root [] 0 es (before_last (name ∷ names)) (λ e. cc) refl (zero-add (before_last (name ∷ names))) refl is.places))
+    (path_reaches there (name ∷ names) 0 root [] 0 es (before_last (name ∷ names)) (λ e. cc) refl
+    (zero-add (before_last (name ∷ names))) refl is.places))

@@ -87,7 +87,9 @@ at_last now items names id d k before is why None h =
     let new = new_file id (record { 0 = d }) (last_name names) in (
       subst (λ (t : Tested). IsNameReply (Make names id) (Ok (Makes new)) (record { now = now; result = result_of t ts step.all })) (sym h) tt,
       ap (λ t. left_by t now ts step.puts) h
-          ∙ ap (λ parent. ts ++ (record { fields = Text (codes "node") ∷ Num id.0 ∷ parent ∷ Text (last_name names) ∷ Num 1 ∷ Num 0 ∷ Num 0 ∷ []; until = None }) ∷ []) (parent_is now (before_last names) d before is)
+          ∙ ap (λ parent. ts ++
+          (record { fields = Text (codes "node") ∷ Num id.0 ∷ parent ∷ Text (last_name names) ∷ Num 1 ∷ Num 0 ∷ Num 0 ∷ []; until = None }) ∷ [])
+          (parent_is now (before_last names) d before is)
           ∙ sym (space_append items (Of_node new ∷ [])),
     )
 at_last now items names id d k before is why (Some n) h =

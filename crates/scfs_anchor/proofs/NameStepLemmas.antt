@@ -37,10 +37,12 @@ follows_way at [] more puts some h = absurd (some refl)
 follows_way zero (name ∷ []) more puts some h = counted more puts _ _ (omega arith) h
 follows_way (suc at) (name ∷ []) more puts some h = counted more puts _ _ (omega arith) h
 follows_way zero (name ∷ next ∷ names) more puts some h =
-    let rest : Follows 1 (conds_of (reach nothing_more 1 (next ∷ names)) ++ more) puts = follows_way 1 (next ∷ names) more puts (λ e. cc) (counted more puts _ _ (omega arith) h) in
+    let rest : Follows 1 (conds_of (reach nothing_more 1 (next ∷ names)) ++ more) puts = follows_way 1 (next ∷ names) more puts (λ e. cc)
+    (counted more puts _ _ (omega arith) h) in
     ((omega arith, tt), ((omega arith, tt), counted _ puts _ _ (omega arith) rest))
 follows_way (suc at) (name ∷ next ∷ names) more puts some h =
-    let rest : Follows (suc (suc at)) (conds_of (reach nothing_more (suc (suc at)) (next ∷ names)) ++ more) puts = follows_way (suc (suc at)) (next ∷ names) more puts (λ e. cc) (counted more puts _ _ (omega arith) h) in
+    let rest : Follows (suc (suc at)) (conds_of (reach nothing_more (suc (suc at)) (next ∷ names)) ++ more) puts = follows_way (suc (suc at))
+    (next ∷ names) more puts (λ e. cc) (counted more puts _ _ (omega arith) h) in
     ((omega arith, (omega arith, tt)), ((omega arith, (omega arith, tt)), counted _ puts _ _ (omega arith) rest))
 
 follows_last : (last : ℕ → List ℕ → List Condition) (names : List (List ℕ)) (puts : List Template) → names ≢ []

@@ -51,7 +51,8 @@ seen_said : (items : List Item) (n : anchor.Node)
     → anchor.sight_with (entries_of items) n (anchor.version_of (anchor.versions_of (entries_of items)) n.id n.newest) ≡ sight_said (sight_in items n)
 seen_said items n =
     ap (λ row. anchor.sight_with (entries_of items) n row) (version_found items n.id n.newest)
-    ∙ ap (λ lock. a_sight n (option_map row_said (version_at rows (versions items) n.id n.newest)) (option_map anchor.held lock)) (lock_found items n.id)
+    ∙ ap (λ lock. a_sight n (option_map row_said (version_at rows (versions items) n.id n.newest)) (option_map anchor.held lock))
+    (lock_found items n.id)
     ∙ ap (λ held. a_sight n (option_map row_said (version_at rows (versions items) n.id n.newest)) held) (held_said (lock_on (locks items) n.id))
 
 -- the outcome of an open for reading, by the way through the entries
@@ -63,7 +64,8 @@ pub read_walks : (now until : ℕ) (items : List Item) (request : RequestNo) (na
     ≡ read_from items (anchor.file_at (anchor.nodes_of (entries_of items)) root names)
 read_walks now until items request names session some =
     ap (on_ok (λ (n : Node). Sees (sight_of rows (tree_of items) n))) (walk_to_file items root_id names (λ n. Ok n) some)
-    ∙ on_ok_from (λ (n : Node). Sees (sight_of rows (tree_of items) n)) (λ n. Ok (node_meant n)) (anchor.file_at (anchor.nodes_of (entries_of items)) root names)
+    ∙ on_ok_from (λ (n : Node). Sees (sight_of rows (tree_of items) n)) (λ n. Ok (node_meant n))
+    (anchor.file_at (anchor.nodes_of (entries_of items)) root names)
 
 read_answered : (now lease : ℕ) (items : List Item) (request : RequestNo) (names : List (List ℕ)) (session : ℕ) (r : OrRefusal anchor.Node)
     → (let step = step_of (open_read names None) in
@@ -83,8 +85,12 @@ read_alike now lease items request names session is some =
     let T = live now items in
     let step = step_of (open_read names None) in
     let law = opens_at_tree now (entries_of items) names None (subst (IsTree now) (sym (live_said now items)) is) some in
-    let here = subst (λ (es : List Entry). AnswersSight step (reply_of (space_of items) now step) (anchor.seen_at (anchor.seen_of es None) (anchor.file_at (anchor.nodes_of es) root names)) × (left_after (space_of items) now step ≡ tuples_of es)) (live_said now items) law in
-    let among = subst (λ (ts : List Tuple). AnswersSight step (reply_among ts now step) (anchor.seen_at (anchor.seen_of (entries_of T) None) (anchor.file_at (anchor.nodes_of (entries_of T)) root names)) × (left_among ts now step ≡ space_of T)) (live_space now items) here in
+    let here = subst (λ (es : List Entry). AnswersSight step (reply_of (space_of items) now step)
+    (anchor.seen_at (anchor.seen_of es None) (anchor.file_at (anchor.nodes_of es) root names)) ×
+    (left_after (space_of items) now step ≡ tuples_of es)) (live_said now items) law in
+    let among = subst (λ (ts : List Tuple). AnswersSight step (reply_among ts now step)
+    (anchor.seen_at (anchor.seen_of (entries_of T) None) (anchor.file_at (anchor.nodes_of (entries_of T)) root names)) ×
+    (left_among ts now step ≡ space_of T)) (live_space now items) here in
     subst (λ (r : OrRefusal (Session_outcome Row)). SessionsAlike now lease T request (Open_read names session) r)
     (sym (read_walks now (now + lease) T request names session some))
     (read_answered now lease T request names session (anchor.file_at (anchor.nodes_of (entries_of T)) root names) among)
@@ -92,7 +98,8 @@ read_alike now lease items request names session is some =
 -- the outcome of an open for writing, by the way through the entries
 abbrev pub write_from : List Item → (until : ℕ) → RequestNo → (session : ℕ) → OrRefusal anchor.Node → OrRefusal (Session_outcome Row)
 write_from items until request session r =
-    on_from (λ n. on_ok (λ (n : Node). Locks (sight_of rows (tree_of items) n) (new_lock request session until n.id)) (unlocked (lock_on (locks items) n.id) (node_meant n))) r
+    on_from (λ n. on_ok (λ (n : Node). Locks (sight_of rows (tree_of items) n) (new_lock request session until n.id))
+    (unlocked (lock_on (locks items) n.id) (node_meant n))) r
 
 pub write_walks : (now until : ℕ) (items : List Item) (request : RequestNo) (names : List (List ℕ)) (session : ℕ) → names ≢ []
     → session_outcome rows (tree_of items) now until request (Open_write names session)
@@ -106,15 +113,20 @@ write_walks now until items request names session some =
 lock_answered : (now lease : ℕ) (items : List Item) (request : RequestNo) (names : List (List ℕ)) (session : ℕ) (n : anchor.Node) (o : Option Lock)
     → (let step = step_of (session_plan lease request (Open_write names session)) in
     AnswersSight step (reply_among (space_of items) now step)
-    (anchor.unless_locked (option_map lock_said o) (anchor.sight_with (entries_of items) n (anchor.version_of (anchor.versions_of (entries_of items)) n.id n.newest)))
+    (anchor.unless_locked (option_map lock_said o)
+    (anchor.sight_with (entries_of items) n (anchor.version_of (anchor.versions_of (entries_of items)) n.id n.newest)))
     × (left_among (space_of items) now step
-    ≡ tuples_of (anchor.with_lock (entries_of items) (option_map lock_said o) (anchor.new_lock_of now request.agent request.incarnation session lease n))))
+    ≡ tuples_of (anchor.with_lock (entries_of items) (option_map lock_said o)
+    (anchor.new_lock_of now request.agent request.incarnation session lease n))))
     → SessionsAlike now lease items request (Open_write names session)
     (on_ok (λ (n : Node). Locks (sight_of rows (tree_of items) n) (new_lock request session (now + lease) n.id)) (unlocked o (node_meant n)))
 lock_answered now lease items request names session n None h =
     let step = step_of (session_plan lease request (Open_write names session)) in
-    let l = new_lock request session (now + lease) n.id in
-    (subst (ShowsSight (reply_among (space_of items) now step)) (seen_said items n) h.0, h.1 ∙ ap tuples_of (sym (map-append entry_of items (Of_lock l ∷ []))))
+    let l = new_lock request session (now + lease) n.id in (
+      subst (ShowsSight (reply_among (space_of items) now step)) (seen_said items n) h.0,
+      h.1 ∙ ap tuples_of
+          (sym (map-append entry_of items (Of_lock l ∷ []))),
+    )
 lock_answered now lease items request names session n (Some there) h = h
 
 write_answered : (now lease : ℕ) (items : List Item) (request : RequestNo) (names : List (List ℕ)) (session : ℕ) (r : OrRefusal anchor.Node)
@@ -129,7 +141,8 @@ write_answered now lease items request names session (Ok n) h =
     let seen = anchor.sight_with es n (anchor.version_of (anchor.versions_of es) n.id n.newest) in
     let l = anchor.new_lock_of now request.agent request.incarnation session lease n in
     lock_answered now lease items request names session n (lock_on (locks items) n.id)
-    (subst (λ (o : Option anchor.Lock). AnswersSight step (reply_among (space_of items) now step) (anchor.unless_locked o seen) × (left_among (space_of items) now step ≡ tuples_of (anchor.with_lock es o l))) (lock_found items n.id) h)
+    (subst (λ (o : Option anchor.Lock). AnswersSight step (reply_among (space_of items) now step) (anchor.unless_locked o seen) ×
+    (left_among (space_of items) now step ≡ tuples_of (anchor.with_lock es o l))) (lock_found items n.id) h)
 write_answered now lease items request names session (Err why) h = h
 
 pub write_alike : (now lease : ℕ) (items : List Item) (request : RequestNo) (names : List (List ℕ)) (session : ℕ)
@@ -140,15 +153,23 @@ write_alike now lease items request names session is some =
     let T = live now items in
     let step = step_of (session_plan lease request (Open_write names session)) in
     let new = anchor.new_lock_of now request.agent request.incarnation session lease in
-    let law = locks_at_tree now (entries_of items) names request.agent request.incarnation session lease (subst (IsTree now) (sym (live_said now items)) is) some in
-    let here = subst (λ (es : List Entry). AnswersSight step (reply_of (space_of items) now step) (anchor.seen_at (anchor.seen_locked es) (anchor.file_at (anchor.nodes_of es) root names)) × (left_after (space_of items) now step ≡ tuples_of (anchor.entries_locked es new (anchor.file_at (anchor.nodes_of es) root names)))) (live_said now items) law in
-    let among = subst (λ (ts : List Tuple). AnswersSight step (reply_among ts now step) (anchor.seen_at (anchor.seen_locked (entries_of T)) (anchor.file_at (anchor.nodes_of (entries_of T)) root names)) × (left_among ts now step ≡ tuples_of (anchor.entries_locked (entries_of T) new (anchor.file_at (anchor.nodes_of (entries_of T)) root names)))) (live_space now items) here in
+    let law = locks_at_tree now (entries_of items) names request.agent request.incarnation session lease
+    (subst (IsTree now) (sym (live_said now items)) is) some in
+    let here = subst (λ (es : List Entry). AnswersSight step (reply_of (space_of items) now step)
+    (anchor.seen_at (anchor.seen_locked es) (anchor.file_at (anchor.nodes_of es) root names)) ×
+    (left_after (space_of items) now step ≡ tuples_of (anchor.entries_locked es new (anchor.file_at (anchor.nodes_of es) root names))))
+    (live_said now items) law in
+    let among = subst (λ (ts : List Tuple). AnswersSight step (reply_among ts now step)
+    (anchor.seen_at (anchor.seen_locked (entries_of T)) (anchor.file_at (anchor.nodes_of (entries_of T)) root names)) ×
+    (left_among ts now step ≡ tuples_of (anchor.entries_locked (entries_of T) new (anchor.file_at (anchor.nodes_of (entries_of T)) root names))))
+    (live_space now items) here in
     subst (λ (r : OrRefusal (Session_outcome Row)). SessionsAlike now lease T request (Open_write names session) r)
     (sym (write_walks now (now + lease) T request names session some))
     (write_answered now lease T request names session (anchor.file_at (anchor.nodes_of (entries_of T)) root names) among)
 
 -- the numbers of a version that is there fit
-version_fits : (now : ℕ) (id : FileId) (v : ℕ) (items : List Item) → Each (IsEntry now) (entries_of items) → FitsVersion (version_at rows (versions items) id v)
+version_fits : (now : ℕ) (id : FileId) (v : ℕ) (items : List Item) → Each (IsEntry now) (entries_of items)
+    → FitsVersion (version_at rows (versions items) id v)
 version_fits now id v [] h = tt
 version_fits now id v (Of_node n ∷ items) h = version_fits now id v items h.1
 version_fits now id v (Of_lock l ∷ items) h = version_fits now id v items h.1

@@ -100,17 +100,20 @@ made_stays now most items id d last is few small fresh None e =
     (filter_map-append item.node_of items (Of_node new ∷ []))
     (filter_map-append item.lock_of items (Of_node new ∷ []) ∙ append-nil (locks items))
     (filter_map-append item.version_of items (Of_node new ∷ []) ∙ append-nil (versions items))
-    (fit_items now (items ++ Of_node new ∷ []) (each_append (λ x. IsEntry now (entry_of x)) items (Of_node new ∷ []) (items_fit now items is.valid.ranges)
+    (fit_items now (items ++ Of_node new ∷ [])
+    (each_append (λ x. IsEntry now (entry_of x)) items (Of_node new ∷ []) (items_fit now items is.valid.ranges)
     (record { id = few; parent = small; newest = omega arith; size = omega arith }, tt)))
     (with_node (nodes items) (versions items) new (whole_of now items is.valid) ids places refl refl)
     is.apart
-    (each_also (λ (l : Lock). Each (λ (n : Node). n.id.0 ≡ l.file.0 → n.kind ≡ kinds.File) (nodes items)) (λ (l : Lock). Each (λ (n : Node). n.id.0 ≡ l.file.0 → n.kind ≡ kinds.File) (nodes items ++ new ∷ []))
+    (each_also (λ (l : Lock). Each (λ (n : Node). n.id.0 ≡ l.file.0 → n.kind ≡ kinds.File) (nodes items))
+    (λ (l : Lock). Each (λ (n : Node). n.id.0 ≡ l.file.0 → n.kind ≡ kinds.File) (nodes items ++ new ∷ []))
     (λ l h. each_append (λ (n : Node). n.id.0 ≡ l.file.0 → n.kind ≡ kinds.File) (nodes items) (new ∷ []) h ((λ i. refl), tt)) (locks items) is.files)
     (each_append (λ (n : Node). n.newest ≤ most + 1) (nodes items) (new ∷ []) (more most (nodes items) is.few) (omega arith, tt))
 
 pub make_stays : (now most : ℕ) (items : List Item) (names : List (List ℕ)) (id : FileId) → Before now most items → id.0 < 2 ^ 64
     → Each (λ (n : Node). n.id.0 ≢ id.0) (nodes items) → (r : OrRefusal ℕ) → DirFits r
-    → Stays now (most + 1) (after_ok items (name_items items) (on_from (made_in items names id) r)) (tree_named items (on_from (made_in items names id) r))
+    → Stays now (most + 1) (after_ok items (name_items items) (on_from (made_in items names id) r))
+    (tree_named items (on_from (made_in items names id) r))
 make_stays now most items names id is few fresh (Ok d) small =
     made_stays now most items id d (last_name names) is few small fresh (node_in (nodes items) (record { 0 = d }) (last_name names)) refl
 make_stays now most items names id is few fresh (Err why) small = stay now most items is
@@ -122,7 +125,8 @@ shown_stays now most items is None = stay now most items is
 shown_stays now most items is (Some n) = stay now most items is
 
 pub look_stays : (now most : ℕ) (items : List Item) (names : List (List ℕ)) → Before now most items → (r : OrRefusal ℕ)
-    → Stays now (most + 1) (after_ok items (name_items items) (on_from (shown_in items names) r)) (tree_named items (on_from (shown_in items names) r))
+    → Stays now (most + 1) (after_ok items (name_items items) (on_from (shown_in items names) r))
+    (tree_named items (on_from (shown_in items names) r))
 look_stays now most items names is (Ok d) = shown_stays now most items is (node_in (nodes items) (record { 0 = d }) (last_name names))
 look_stays now most items names is (Err why) = stay now most items is
 
@@ -155,14 +159,16 @@ abbrev pub Alone : List Node → OrRefusal anchor.Node → Type 0
 Alone ns (Ok n) = Each (λ (m : Node). m.id.0 ≡ n.id.0 → m.kind ≡ kinds.File) ns
 Alone ns (Err why) = Unit {0}
 
-way_alone : (ns : List Node) (o : Option anchor.Node) (go : ℕ → OrRefusal anchor.Node) → ((d : ℕ) → Alone ns (go d)) → Alone ns (anchor.in_directory o go)
+way_alone : (ns : List Node) (o : Option anchor.Node) (go : ℕ → OrRefusal anchor.Node) → ((d : ℕ) → Alone ns (go d))
+    → Alone ns (anchor.in_directory o go)
 way_alone ns None go h = tt
 way_alone ns (Some n) go h = by n.kind (h n.id.0) where
   by : (k : Kind) → Alone ns (go n.id.0) → Alone ns (anchor.if_file k (Err refusals.NotDir) (go n.id.0))
   by kinds.File there = tt
   by kinds.Dir there = there
 
-last_alone : (p : Node → Bool) (ns : List Node) → Apart same_id ns → (o : Option Node) → find p ns ≡ o → Alone ns (anchor.as_file (option_map node_said o))
+last_alone : (p : Node → Bool) (ns : List Node) → Apart same_id ns → (o : Option Node) → find p ns ≡ o
+    → Alone ns (anchor.as_file (option_map node_said o))
 last_alone p ns apart None e = tt
 last_alone p ns apart (Some n) e = by n.kind refl where
   by : (k : Kind) → n.kind ≡ k → Alone ns (anchor.if_file k (Ok (node_said n)) (Err refusals.IsDir))
@@ -176,7 +182,8 @@ file_alone items apart (name ∷ []) d =
     subst (λ (o : Option anchor.Node). Alone (nodes items) (anchor.as_file o)) (sym (node_found items (record { 0 = d }) name))
     (last_alone _ (nodes items) apart (node_in (nodes items) (record { 0 = d }) name) refl)
 file_alone items apart (name ∷ next ∷ names) d =
-    way_alone (nodes items) (anchor.node_at (anchor.nodes_of (entries_of items)) d name) (λ b. anchor.file_at (anchor.nodes_of (entries_of items)) b (next ∷ names))
+    way_alone (nodes items) (anchor.node_at (anchor.nodes_of (entries_of items)) d name)
+    (λ b. anchor.file_at (anchor.nodes_of (entries_of items)) b (next ∷ names))
     (λ b. file_alone items apart (next ∷ names) b)
 
 -- an open for writing
@@ -196,12 +203,14 @@ lock_stays now most until items request session n is small only agent incarnatio
     (record { file = small; agent = agent; incarnation = incarnation; session = number }, tt)))
     (whole_of now items is.valid)
     (apart_append same_lock (locks items) l is.apart (none_found (λ x. same_lock x l) (locks items) e))
-    (each_append (λ (l : Lock). Each (λ (n : Node). n.id.0 ≡ l.file.0 → n.kind ≡ kinds.File) (nodes items)) (locks items) (l ∷ []) is.files (only, tt))
+    (each_append (λ (l : Lock). Each (λ (n : Node). n.id.0 ≡ l.file.0 → n.kind ≡ kinds.File) (nodes items)) (locks items) (l ∷ []) is.files
+    (only, tt))
     (more most (nodes items) is.few)
 
 pub write_stays : (now most until : ℕ) (items : List Item) (request : RequestNo) (session : ℕ) → Before now most items → request.agent < 2 ^ 8
     → request.incarnation < 2 ^ 24 → session < 2 ^ 64 → (r : OrRefusal anchor.Node) → FileFits r → Alone (nodes items) r
-    → Stays now (most + 1) (after_ok items (session_items items request) (write_from items until request session r)) (tree_opened items request (write_from items until request session r))
+    → Stays now (most + 1) (after_ok items (session_items items request) (write_from items until request session r))
+    (tree_opened items request (write_from items until request session r))
 write_stays now most until items request session is agent incarnation number (Ok n) fit only =
     lock_stays now most until items request session (node_meant n) is fit.id only agent incarnation number (lock_on (locks items) n.id) refl
 write_stays now most until items request session is agent incarnation number (Err why) fit only = stay now most items is

@@ -28,40 +28,74 @@ abbrev pub binds_none : Item → List Field
 binds_none x = []
 
 -- the pattern of a session's lock meets it, and no other item
-own_lock_meets : (request : RequestNo) (file : FileId) (session : ℕ) (x : Item) → Meets (lock_wants file request.agent request.incarnation session) [] (is_lock_item request file session) binds_none x
+own_lock_meets : (request : RequestNo) (file : FileId) (session : ℕ) (x : Item)
+    → Meets (lock_wants file request.agent request.incarnation session) [] (is_lock_item request file session) binds_none x
 own_lock_meets request file session (Of_node n) = refl
 own_lock_meets request file session (Of_version v) = refl
 own_lock_meets request file session (Of_lock l) =
     here (eqb file.0 l.file.0) (eqb request.agent l.agent) (eqb request.incarnation l.incarnation) (eqb session l.session) refl refl refl refl where
-      here : (t u v w : Bool) → eqb file.0 l.file.0 ≡ t → eqb request.agent l.agent ≡ u → eqb request.incarnation l.incarnation ≡ v → eqb session l.session ≡ w → Meets (lock_wants file request.agent request.incarnation session) [] (is_lock_item request file session) binds_none (Of_lock l)
+      here : (t u v w : Bool) → eqb file.0 l.file.0 ≡ t → eqb request.agent l.agent ≡ u → eqb request.incarnation l.incarnation ≡ v
+          → eqb session l.session ≡ w
+          → Meets (lock_wants file request.agent request.incarnation session) [] (is_lock_item request file session) binds_none (Of_lock l)
       here false u v w e f g h = rw (e, flipped file.0 l.file.0 false e) refl
       here true false v w e f g h = rw (e, f, flipped file.0 l.file.0 true e, flipped request.agent l.agent false f) refl
-      here true true false w e f g h = rw (e, f, g, flipped file.0 l.file.0 true e, flipped request.agent l.agent true f, flipped request.incarnation l.incarnation false g) refl
-      here true true true false e f g h = rw (e, f, g, h, flipped file.0 l.file.0 true e, flipped request.agent l.agent true f, flipped request.incarnation l.incarnation true g, flipped session l.session false h) refl
-      here true true true true e f g h = rw (e, f, g, h, flipped file.0 l.file.0 true e, flipped request.agent l.agent true f, flipped request.incarnation l.incarnation true g, flipped session l.session true h) refl
+      here true true false w e f g h =
+          rw (e, f, g, flipped file.0 l.file.0 true e, flipped request.agent l.agent true f, flipped request.incarnation l.incarnation false g) refl
+      here true true true false e f g h =
+          rw (
+            e,
+            f,
+            g,
+            h,
+            flipped file.0 l.file.0 true e,
+            flipped request.agent l.agent true f,
+            flipped request.incarnation l.incarnation true g,
+            flipped session l.session false h,
+          ) refl
+      here true true true true e f g h =
+          rw (
+            e,
+            f,
+            g,
+            h,
+            flipped file.0 l.file.0 true e,
+            flipped request.agent l.agent true f,
+            flipped request.incarnation l.incarnation true g,
+            flipped session l.session true h,
+          ) refl
 
-pub lock_meets : (request : RequestNo) (file : FileId) (session agent incarnation : ℕ) → agent ≡ request.agent → incarnation ≡ request.incarnation → (x : Item) → Meets (lock_wants file agent incarnation session) [] (is_lock_item request file session) binds_none x
+pub lock_meets : (request : RequestNo) (file : FileId) (session agent incarnation : ℕ) → agent ≡ request.agent → incarnation ≡ request.incarnation
+    → (x : Item) → Meets (lock_wants file agent incarnation session) [] (is_lock_item request file session) binds_none x
 lock_meets request file session agent incarnation e f x =
     subst (λ (a : ℕ). Meets (lock_wants file a incarnation session) [] (is_lock_item request file session) binds_none x) (sym e)
-    (subst (λ (i : ℕ). Meets (lock_wants file request.agent i session) [] (is_lock_item request file session) binds_none x) (sym f) (own_lock_meets request file session x))
+    (subst (λ (i : ℕ). Meets (lock_wants file request.agent i session) [] (is_lock_item request file session) binds_none x) (sym f)
+    (own_lock_meets request file session x))
 
 -- the first such item is the session's lock
-pub lock_item : (request : RequestNo) (file : FileId) (session : ℕ) (items : List Item) → find (is_lock_item request file session) items ≡ option_map Of_lock (session_lock (locks items) request file session)
+pub lock_item : (request : RequestNo) (file : FileId) (session : ℕ) (items : List Item)
+    → find (is_lock_item request file session) items ≡ option_map Of_lock (session_lock (locks items) request file session)
 lock_item request file session [] = refl
 lock_item request file session (Of_node n ∷ items) = lock_item request file session items
 lock_item request file session (Of_version v ∷ items) = lock_item request file session items
 lock_item request file session (Of_lock l ∷ items) = here (is_lock_by request file session l) refl (lock_item request file session items) where
-  here : (t : Bool) → is_lock_by request file session l ≡ t → find (is_lock_item request file session) items ≡ option_map Of_lock (session_lock (locks items) request file session) → find (is_lock_item request file session) (Of_lock l ∷ items) ≡ option_map Of_lock (session_lock (locks (Of_lock l ∷ items)) request file session)
+  here : (t : Bool) → is_lock_by request file session l ≡ t
+      → find (is_lock_item request file session) items ≡ option_map Of_lock (session_lock (locks items) request file session)
+      → find (is_lock_item request file session) (Of_lock l ∷ items)
+      ≡ option_map Of_lock (session_lock (locks (Of_lock l ∷ items)) request file session)
   here true e rest = rw e refl
   here false e rest = rw e rest
 
 -- as many items as locks
-lock_count : (request : RequestNo) (file : FileId) (session : ℕ) (items : List Item) → length (filter (is_lock_item request file session) items) ≡ length (filter (is_lock_by request file session) (locks items))
+lock_count : (request : RequestNo) (file : FileId) (session : ℕ) (items : List Item)
+    → length (filter (is_lock_item request file session) items) ≡ length (filter (is_lock_by request file session) (locks items))
 lock_count request file session [] = refl
 lock_count request file session (Of_node n ∷ items) = lock_count request file session items
 lock_count request file session (Of_version v ∷ items) = lock_count request file session items
 lock_count request file session (Of_lock l ∷ items) = here (is_lock_by request file session l) refl (lock_count request file session items) where
-  here : (t : Bool) → is_lock_by request file session l ≡ t → length (filter (is_lock_item request file session) items) ≡ length (filter (is_lock_by request file session) (locks items)) → length (filter (is_lock_item request file session) (Of_lock l ∷ items)) ≡ length (filter (is_lock_by request file session) (locks (Of_lock l ∷ items)))
+  here : (t : Bool) → is_lock_by request file session l ≡ t
+      → length (filter (is_lock_item request file session) items) ≡ length (filter (is_lock_by request file session) (locks items))
+      → length (filter (is_lock_item request file session) (Of_lock l ∷ items))
+      ≡ length (filter (is_lock_by request file session) (locks (Of_lock l ∷ items)))
   here true e rest = rw e (ap suc rest)
   here false e rest = rw e rest
 

@@ -54,28 +54,39 @@ pub record Whole (ns : List Node) (vs : List Row) : Type 0 where
   pub owners : Each (λ v. IsOf (node_of ns v.file) v) vs
 
 -- a look-up of a node by its id
-id_found : (items : List Item) (file : FileId) → anchor.node_of (anchor.nodes_of (entries_of items)) file ≡ option_map node_said (node_of (nodes items) file)
+id_found : (items : List Item) (file : FileId)
+    → anchor.node_of (anchor.nodes_of (entries_of items)) file ≡ option_map node_said (node_of (nodes items) file)
 id_found items file =
     ap (λ ns. anchor.node_of ns file) (nodes_said items)
     ∙ find_map node_said (λ (n : anchor.Node). anchor.same_file n.id file) (λ (n : Node). same_file n.id file) (λ n. refl) (nodes items)
 
-size_meant : (n : Node) (o : Option Row) → MatchOption (option_map row_said o) ⊥ (λ (r : VersionRow). r.length ≡ n.size) → MatchOption o ⊥ (λ v. v.length ≡ n.size)
+size_meant : (n : Node) (o : Option Row) → MatchOption (option_map row_said o) ⊥ (λ (r : VersionRow). r.length ≡ n.size)
+    → MatchOption o ⊥ (λ v. v.length ≡ n.size)
 size_meant n None h = h
 size_meant n (Some v) h = h
 
-size_said : (n : Node) (o : Option Row) → MatchOption o ⊥ (λ v. v.length ≡ n.size) → MatchOption (option_map row_said o) ⊥ (λ (r : VersionRow). r.length ≡ n.size)
+size_said : (n : Node) (o : Option Row) → MatchOption o ⊥ (λ v. v.length ≡ n.size)
+    → MatchOption (option_map row_said o) ⊥ (λ (r : VersionRow). r.length ≡ n.size)
 size_said n None h = h
 size_said n (Some v) h = h
 
-newest_meant : (items : List Item) (n : Node) (k : ℕ) → anchor.HasNewest (anchor.versions_of (entries_of items)) (node_said n) k → HasNewest (versions items) n k
+newest_meant : (items : List Item) (n : Node) (k : ℕ) → anchor.HasNewest (anchor.versions_of (entries_of items)) (node_said n) k
+    → HasNewest (versions items) n k
 newest_meant items n zero h = h
-newest_meant items n (suc k) h =
-    (h.0, size_meant n (version_of (versions items) n.id (suc k)) (subst (λ (o : Option VersionRow). MatchOption o ⊥ (λ (r : VersionRow). r.length ≡ n.size)) (version_found items n.id (suc k)) h.1))
+newest_meant items n (suc k) h = (
+  h.0,
+  size_meant n (version_of (versions items) n.id (suc k))
+      (subst (λ (o : Option VersionRow). MatchOption o ⊥ (λ (r : VersionRow). r.length ≡ n.size)) (version_found items n.id (suc k)) h.1),
+)
 
-newest_said : (items : List Item) (n : Node) (k : ℕ) → HasNewest (versions items) n k → anchor.HasNewest (anchor.versions_of (entries_of items)) (node_said n) k
+newest_said : (items : List Item) (n : Node) (k : ℕ) → HasNewest (versions items) n k
+    → anchor.HasNewest (anchor.versions_of (entries_of items)) (node_said n) k
 newest_said items n zero h = h
-newest_said items n (suc k) h =
-    (h.0, subst (λ (o : Option VersionRow). MatchOption o ⊥ (λ (r : VersionRow). r.length ≡ n.size)) (sym (version_found items n.id (suc k))) (size_said n (version_of (versions items) n.id (suc k)) h.1))
+newest_said items n (suc k) h = (
+  h.0,
+  subst (λ (o : Option VersionRow). MatchOption o ⊥ (λ (r : VersionRow). r.length ≡ n.size)) (sym (version_found items n.id (suc k)))
+      (size_said n (version_of (versions items) n.id (suc k)) h.1),
+)
 
 owner_meant : (v : Row) (o : Option Node) → anchor.IsOf (option_map node_said o) [] (row_said v) → IsOf o v
 owner_meant v None h = absurd cc
@@ -89,35 +100,44 @@ pub whole_of : (now : ℕ) (items : List Item) → IsTree now (entries_of items)
 whole_of now items is =
     let es = entries_of items in
     record {
-      ids = apart_unmap node_said (λ a b. anchor.same_file a.id b.id) (nodes items) (subst (Apart (λ a b. anchor.same_file a.id b.id)) (nodes_said items) is.ids);
+      ids =
+          apart_unmap node_said (λ a b. anchor.same_file a.id b.id) (nodes items)
+          (subst (Apart (λ a b. anchor.same_file a.id b.id)) (nodes_said items) is.ids);
       places = apart_unmap node_said anchor.same_place (nodes items) (subst (Apart anchor.same_place) (nodes_said items) is.places);
       versions = apart_unmap row_said anchor.same_version (versions items) (subst (Apart anchor.same_version) (versions_said items) is.versions);
       newest =
           each_also _ (λ n. HasNewest (versions items) n n.newest) (λ n h. newest_meant items n n.newest h) (nodes items)
-          (each_unmap node_said (λ n. anchor.HasNewest (anchor.versions_of es) n n.newest) (nodes items) (subst (Each (λ n. anchor.HasNewest (anchor.versions_of es) n n.newest)) (nodes_said items) is.newest));
-      numbers = each_unmap row_said (λ r. 1 ≤ r.number) (versions items) (subst (Each (λ (r : VersionRow). 1 ≤ r.number)) (versions_said items) is.numbers);
+          (each_unmap node_said (λ n. anchor.HasNewest (anchor.versions_of es) n n.newest) (nodes items)
+          (subst (Each (λ n. anchor.HasNewest (anchor.versions_of es) n n.newest)) (nodes_said items) is.newest));
+      numbers =
+          each_unmap row_said (λ r. 1 ≤ r.number) (versions items) (subst (Each (λ (r : VersionRow). 1 ≤ r.number)) (versions_said items) is.numbers);
       owners =
           each_also _ (λ v. IsOf (node_of (nodes items) v.file) v)
           (λ v h. owner_meant v (node_of (nodes items) v.file)
           (subst (λ (g : List FileId). anchor.IsOf (option_map node_said (node_of (nodes items) v.file)) g (row_said v)) (none_gone items)
           (subst (λ (o : Option anchor.Node). anchor.IsOf o (anchor.gone_of es) (row_said v)) (id_found items v.file) h))) (versions items)
           (each_unmap row_said (λ r. anchor.IsOf (anchor.node_of (anchor.nodes_of es) r.id) (anchor.gone_of es) r) (versions items)
-          (subst (Each (λ (r : VersionRow). anchor.IsOf (anchor.node_of (anchor.nodes_of es) r.id) (anchor.gone_of es) r)) (versions_said items) is.owners));
+          (subst (Each (λ (r : VersionRow). anchor.IsOf (anchor.node_of (anchor.nodes_of es) r.id) (anchor.gone_of es) r))
+          (versions_said items) is.owners));
     }
 
-locks_stand : (now : ℕ) (items : List Item) → Apart same_lock (filter (λ (l : Lock). nat_lt now l.until) (locks items)) → Apart (λ a b. anchor.same_file a.file b.file) (anchor.locks_of (anchor.live_entries now (entries_of items)))
+locks_stand : (now : ℕ) (items : List Item) → Apart same_lock (filter (λ (l : Lock). nat_lt now l.until) (locks items))
+    → Apart (λ a b. anchor.same_file a.file b.file) (anchor.locks_of (anchor.live_entries now (entries_of items)))
 locks_stand now items h =
     subst (Apart (λ a b. anchor.same_file a.file b.file))
     (sym (ap anchor.locks_of (live_said now items) ∙ locks_said (live now items) ∙ ap (map lock_said) (locks_live now items)))
     (apart_map lock_said (λ a b. anchor.same_file a.file b.file) (filter (λ (l : Lock). nat_lt now l.until) (locks items)) h)
 
 -- items whose live locks are of different files stand
-pub stands_live : (now : ℕ) (items : List Item) → Each (IsEntry now) (entries_of items) → Apart same_lock (filter (λ (l : Lock). nat_lt now l.until) (locks items)) → Whole (nodes items) (versions items) → IsTree now (entries_of items)
+pub stands_live : (now : ℕ) (items : List Item) → Each (IsEntry now) (entries_of items)
+    → Apart same_lock (filter (λ (l : Lock). nat_lt now l.until) (locks items)) → Whole (nodes items) (versions items) → IsTree now (entries_of items)
 stands_live now items ranges apart is =
     let es = entries_of items in
     record {
       ranges = ranges;
-      ids = subst (Apart (λ a b. anchor.same_file a.id b.id)) (sym (nodes_said items)) (apart_map node_said (λ a b. anchor.same_file a.id b.id) (nodes items) is.ids);
+      ids =
+          subst (Apart (λ a b. anchor.same_file a.id b.id)) (sym (nodes_said items))
+          (apart_map node_said (λ a b. anchor.same_file a.id b.id) (nodes items) is.ids);
       places = subst (Apart anchor.same_place) (sym (nodes_said items)) (apart_map node_said anchor.same_place (nodes items) is.places);
       locks = locks_stand now items apart;
       versions = subst (Apart anchor.same_version) (sym (versions_said items)) (apart_map row_said anchor.same_version (versions items) is.versions);
@@ -126,7 +146,9 @@ stands_live now items ranges apart is =
           subst (Each (λ n. anchor.HasNewest (anchor.versions_of es) n n.newest)) (sym (nodes_said items))
           (each_map node_said (λ n. anchor.HasNewest (anchor.versions_of es) n n.newest) (nodes items)
           (each_also (λ n. HasNewest (versions items) n n.newest) _ (λ n h. newest_said items n n.newest h) (nodes items) is.newest));
-      numbers = subst (Each (λ (r : VersionRow). 1 ≤ r.number)) (sym (versions_said items)) (each_map row_said (λ r. 1 ≤ r.number) (versions items) is.numbers);
+      numbers =
+          subst (Each (λ (r : VersionRow). 1 ≤ r.number)) (sym (versions_said items))
+          (each_map row_said (λ r. 1 ≤ r.number) (versions items) is.numbers);
       owners =
           subst (Each (λ (r : VersionRow). anchor.IsOf (anchor.node_of (anchor.nodes_of es) r.id) (anchor.gone_of es) r)) (sym (versions_said items))
           (each_map row_said (λ r. anchor.IsOf (anchor.node_of (anchor.nodes_of es) r.id) (anchor.gone_of es) r) (versions items)
@@ -138,6 +160,7 @@ stands_live now items ranges apart is =
     }
 
 -- and so do items whose locks are
-pub stands : (now : ℕ) (items : List Item) → Each (IsEntry now) (entries_of items) → Apart same_lock (locks items) → Whole (nodes items) (versions items) → IsTree now (entries_of items)
+pub stands : (now : ℕ) (items : List Item) → Each (IsEntry now) (entries_of items) → Apart same_lock (locks items)
+    → Whole (nodes items) (versions items) → IsTree now (entries_of items)
 stands now items ranges apart is =
     stands_live now items ranges (apart_filter same_lock (λ (l : Lock). nat_lt now l.until) (locks items) apart) is

@@ -4,9 +4,9 @@ ghost use Rattle.scfs_anchor.specs.Shapes as shapes;
 ghost use Rattle.scfs_anchor.specs.Plans.{Condition, step_of, reach, before_last};
 ghost use Rattle.scfs_anchor.specs.StepPlans.{create, stat, free, there, file_template, new_file, nothing_more, parent_of, last_name};
 
+use crate::Path;
 use crate::conditions::ask_directory;
 use crate::shapes::{FILE, NodeWants, ROOT, directory, given, given_text, node, text};
-use crate::Path;
 use scfs_base::{Bytes, FileId, Memory, Sequence};
 use scfs_tuples::{Cond, Give, Pattern, Step, Template, Want};
 use std::alloc::Global;
