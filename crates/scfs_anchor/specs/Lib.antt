@@ -1,7 +1,11 @@
 pub mod Fields
+pub mod Holding
+pub mod Items
 pub mod Laws
 pub mod Names
 pub mod Plans
 pub mod Replies
 pub mod Shapes
+pub mod StepPlans
+pub mod StepReplies
 pub mod Tree

@@ -5,6 +5,7 @@
 mod conditions;
 mod fields;
 mod laws;
+mod name_steps;
 mod path;
 mod replies;
 mod seen;
@@ -14,8 +15,10 @@ mod steps;
 pub use conditions::ask_directory;
 pub use fields::number_at;
 pub use laws::{
-    locks_are_taken_as_by_the_tree, looks_answer_as_the_tree, opens_answer_as_the_tree,
+    locks_are_taken_as_by_the_tree, looks_answer_as_the_tree, no_tuples_hold_the_empty_tree,
+    opens_answer_as_the_tree, steps_serve_as_on_the_machine, tuples_hold_the_tree_later,
 };
+pub use name_steps::{create, stat};
 pub use path::Path;
 pub use replies::{refusal, rows, sight, sight_of};
 pub use seen::{Sight, VersionRow};
