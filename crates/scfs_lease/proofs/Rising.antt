@@ -75,15 +75,21 @@ none_of s n (l ∷ xs) le a = rw (ne_eqb l.session s (omega arith)) (ap (λ t. l
 
 -- a lease goes behind those of lower sessions
 inserted : (x : Lease) (xs : List Lease) → IsRising xs
-  → let ys = without_lease x.session xs in insert ys (length (filter (λ (l : Lease). ltb l.session x.session) ys)) x ≡ with_lease x xs
+    → let ys = without_lease x.session xs in insert ys (length (filter (λ (l : Lease). ltb l.session x.session) ys)) x ≡ with_lease x xs
 inserted x [] r = refl
 inserted x (l ∷ xs) r =
     elim (cases_order l.session x.session) [
       | inl same ↦ rw (eq-eqb l.session x.session same, le-ltb l.session x.session (omega arith), le-ltb x.session l.session (omega arith)) (inserted x xs r.1)
       | inr (inl less) ↦ rw (ne_eqb l.session x.session (omega arith), lt-ltb l.session x.session less, le-ltb x.session l.session (omega arith))
           (ap (λ t. l ∷ t) (inserted x xs r.1))
-      | inr (inr more) ↦ rw (ne_eqb l.session x.session (omega arith), le-ltb l.session x.session (omega arith), lt-ltb x.session l.session more,
-          none_of x.session l.session xs (omega arith) r.0, none_below x.session l.session xs (omega arith) r.0, all_above x.session l.session xs (omega arith) r.0)
+      | inr (inr more) ↦ rw (
+        ne_eqb l.session x.session (omega arith),
+        le-ltb l.session x.session (omega arith),
+        lt-ltb x.session l.session more,
+        none_of x.session l.session xs (omega arith) r.0,
+        none_below x.session l.session xs (omega arith) r.0,
+        all_above x.session l.session xs (omega arith) r.0,
+      )
     ]
 
 -- what passes a test that no lease of a session passes is the same without that session
@@ -97,14 +103,16 @@ kept_same p s none (l ∷ xs) =
 
 same_lease : (x : Lease) (xs : List Lease) → with_lease x (without_lease x.session xs) ≡ with_lease x xs
 same_lease x xs =
-    rw (kept_same (λ (l : Lease). ltb l.session x.session) x.session (λ l e. le-ltb l.session x.session (omega arith)) xs,
-      kept_same (λ (l : Lease). ltb x.session l.session) x.session (λ l e. le-ltb x.session l.session (omega arith)) xs)
+    rw (
+      kept_same (λ (l : Lease). ltb l.session x.session) x.session (λ l e. le-ltb l.session x.session (omega arith)) xs,
+      kept_same (λ (l : Lease). ltb x.session l.session) x.session (λ l e. le-ltb x.session l.session (omega arith)) xs,
+    )
 
 pub placed : (x : Lease) (xs ys : List Lease) (n : ℕ) → IsRising ys → ys ≡ without_lease x.session xs
-  → n ≡ count_by (λ (l : Lease). ltb l.session x.session) ys → insert ys n x ≡ with_lease x xs
+    → n ≡ count_by (λ (l : Lease). ltb l.session x.session) ys → insert ys n x ≡ with_lease x xs
 placed x xs ys n r e f =
     let twice : without_lease x.session ys ≡ ys =
-      rw e (kept_same (λ (l : Lease). not (eqb l.session x.session)) x.session (λ l same. rw (eq-eqb l.session x.session same)) xs) in
+    rw e (kept_same (λ (l : Lease). not (eqb l.session x.session)) x.session (λ l same. rw (eq-eqb l.session x.session same)) xs) in
     rw (f, sym (length-filter (λ (l : Lease). ltb l.session x.session) ys)) ((rw twice at (inserted x ys r)) ∙ ap (with_lease x) e ∙ same_lease x xs)
 
 above_join : (n : ℕ) (xs : List Lease) (x : Lease) (ys : List Lease) → IsAbove n xs → n < x.session → IsAbove n ys → IsAbove n (xs ++ x ∷ ys)
@@ -124,8 +132,12 @@ rising_insert x (l ∷ xs) r =
     elim (cases_order l.session x.session) [
       | inl same ↦ rw (le-ltb l.session x.session (omega arith), le-ltb x.session l.session (omega arith)) (rising_insert x xs r.1)
       | inr (inl less) ↦ rw (lt-ltb l.session x.session less, le-ltb x.session l.session (omega arith)) (above_insert l.session x xs less r.0, rising_insert x xs r.1)
-      | inr (inr more) ↦ rw (le-ltb l.session x.session (omega arith), lt-ltb x.session l.session more,
-          none_below x.session l.session xs (omega arith) r.0, all_above x.session l.session xs (omega arith) r.0)
+      | inr (inr more) ↦ rw (
+        le-ltb l.session x.session (omega arith),
+        lt-ltb x.session l.session more,
+        none_below x.session l.session xs (omega arith) r.0,
+        all_above x.session l.session xs (omega arith) r.0,
+      )
           ((more, above_lower x.session l.session xs more r.0), r)
     ]
 
@@ -141,13 +153,13 @@ IsNotBefore now lease after found l = IsDueAfter now lease after l → found ≤
 
 -- no session that is due is below the first
 pub least_due : (now lease after : ℕ) (xs : List Lease) → IsRising xs
-  → IfSome (first_due now lease after xs) (λ found. All (λ (l : Lease). IsDueAfter now lease after l → found ≤ l.session) xs)
+    → IfSome (first_due now lease after xs) (λ found. All (λ (l : Lease). IsDueAfter now lease after l → found ≤ l.session) xs)
 least_due now lease after [] r = tt
 least_due now lease after (l ∷ xs) r =
     let above : Lease → Type 0 = λ (m : Lease). l.session < m.session in
     elim (is_due_after now lease after l) as (λ b. is_due_after now lease after l ≡ b →
-      IfSome (option_map (λ (m : Lease). m.session) (cond b (Some l) (find (is_due_after now lease after) xs)))
-      (λ found. All (IsNotBefore now lease after found) (l ∷ xs))) [
+    IfSome (option_map (λ (m : Lease). m.session) (cond b (Some l) (find (is_due_after now lease after) xs)))
+    (λ found. All (IsNotBefore now lease after found) (l ∷ xs))) [
       | true ↦ λ e. All-cons (IsNotBefore now lease after l.session) l xs (λ _. omega arith)
           (All-weaker above (IsNotBefore now lease after l.session) (λ m below _. omega arith) xs (All-from_recursion above xs r.0))
       | false ↦ λ e. if_some_weaker (first_due now lease after xs) (λ found. All (IsNotBefore now lease after found) xs)
@@ -158,7 +170,7 @@ least_due now lease after (l ∷ xs) r =
 
 -- a loop that writes f over each lease, one lease on
 pub lease_more : (f : Lease → Lease) (xs ys : List Lease) (i : ℕ) (y d : Lease) → y ≡ f (get_or ys i d) → i < length xs → length ys ≡ length xs
-  → ys ≡ map f (take i xs) ++ drop i xs → set ys i y ≡ map f (take (i + 1) xs) ++ drop (i + 1) xs
+    → ys ≡ map f (take i xs) ++ drop i xs → set ys i y ≡ map f (take (i + 1) xs) ++ drop (i + 1) xs
 lease_more f xs ys i y d e below same done =
     let within : i < length ys = omega arith in
     rw e (map_over_more f xs ys i (get_or ys i d) below done (get_or_default ys i d (get_or ys i d) within))

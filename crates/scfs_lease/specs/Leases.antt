@@ -15,6 +15,7 @@ is_due now lease l = nat_lt now l.until && nat_le ((l.until - now) * 2) lease
 abbrev pub is_due_after : (now lease after : ℕ) → Lease → Bool
 is_due_after now lease after l = nat_lt after l.session && is_due now lease l && not l.asked
 
+-- the same as a fact
 abbrev pub IsDueAfter : (now lease after : ℕ) → Lease → Type 0
 IsDueAfter now lease after l = IsTrue (is_due_after now lease after l)
 
@@ -31,6 +32,7 @@ with_lease x leases =
 abbrev pub without_lease : (session : ℕ) → List Lease → List Lease
 without_lease session leases = filter (λ (l : Lease). not (l.session == session)) leases
 
+-- a lease once the new end of this session's lock was told
 abbrev pub end_told : (session until : ℕ) → Lease → Lease
 end_told session until l = if l.session == session then record l { until = until; asked = false } else l
 
@@ -38,6 +40,7 @@ end_told session until l = if l.session == session then record l { until = until
 abbrev pub with_end : (session until : ℕ) → List Lease → List Lease
 with_end session until leases = map (end_told session until) leases
 
+-- a lease once a renewal of this session's lock is under way
 abbrev pub renewal_asked : (session : ℕ) → Lease → Lease
 renewal_asked session l = if l.session == session then record l { asked = true } else l
 

@@ -6,7 +6,7 @@ use std::alloc::Global;
 use std::marker::Model;
 
 /// The lock of a session, with its end as the agent was told it last, and whether a renewal of it is under way.
-#[derive(Clone, Copy, Debug, PartialEq, Eq)]
+#[derive(Clone, Copy)]
 pub struct Lease {
     pub session: u64,
     pub until: u64,
@@ -117,7 +117,10 @@ impl Leases {
     fn place(&self, session: u64) -> usize
         ensures { result ≡ count_by (λ l. nat_lt l.session session) self.now }
     {
-        self.held.iter().filter(|held| held.session < session).count()
+        self.held
+            .iter()
+            .filter(|held| held.session < session)
+            .count()
     }
 
     /// A session took its lock, which ends then. It stands in place of one that the session had.

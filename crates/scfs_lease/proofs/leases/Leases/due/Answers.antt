@@ -7,5 +7,5 @@ pub returns : goal.returns
 returns c =
     let rising = subst IsRising c.self.view_is c.self.invariant in
     let first : c.first_due.result ≡ first_due c.args.now c.args.lease c.args.after c.args.self.now =
-      c.first_due.ensures ∙ ap (first_due c.args.now c.args.lease c.args.after) (c.deref.ensures.value ∙ c.self.view_is) in
+    c.first_due.ensures ∙ ap (first_due c.args.now c.args.lease c.args.after) (c.deref.ensures.value ∙ c.self.view_is) in
     record { first = first; least = rw first (least_due c.args.now c.args.lease c.args.after c.args.self.now rising); rising = rising }
