@@ -17,7 +17,7 @@ use Rattle.scfs_anchor.proofs.Alike.{is_lock_item, is_node_item, opened_up, sess
 use Rattle.scfs_anchor.proofs.CommitStepLemmas.{completed, committed, nodes_unlocked, AtFile, found_at, held_files}
 use Rattle.scfs_anchor.proofs.ListLemmas.{each_also, each_append, each_without, each_found, found_passes, apart_without}
 use Rattle.scfs_anchor.proofs.WholeLemmas.{same_lock, whole_of}
-use Rattle.scfs_anchor.proofs.MovedLemmas.{renewed, moved, Close, close_whole}
+use Rattle.scfs_anchor.proofs.MovedLemmas.{moved, Close, close_whole}
 use Rattle.scfs_anchor.proofs.KeptLemmas.{versions_unlocked, locks_unlocked, nodes_moved, versions_moved, locks_moved}
 use Rattle.scfs_anchor.proofs.StayLemmas.{Before, Stays, stay, more, finish, items_fit, fit_items, tree_opened}
 

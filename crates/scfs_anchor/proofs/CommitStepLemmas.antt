@@ -1,4 +1,4 @@
-use Rattle.std.proofs.Common.{◌≡◌, ℕ, ◌+◌, ◌-◌, List, [], ◌∷◌, ◌++◌, eqb, Bool, true, false, ◌&&◌, Option, Some, None, refl, ap, ◌∙◌, sym, subst}
+use Rattle.std.proofs.Common.{◌≡◌, ℕ, ◌+◌, ◌-◌, List, [], ◌∷◌, ◌++◌, eqb, Bool, true, false, Option, Some, None, refl, ap, ◌∙◌, sym, subst}
 use Rattle.std.specs.Prelude.{codes}
 use Rattle.std.specs.List.{find}
 use Rattle.std.specs.Option.{option_map}
@@ -18,7 +18,6 @@ use Rattle.scfs_tuples.specs.declared.types.Want.{Want}
 use Rattle.scfs_tuples.specs.declared.types.Want.TheVariants.{Any, Bind}
 use Rattle.scfs_machine.specs.Layers.{Row, rows}
 use Rattle.scfs_machine.specs.Lists.{without_first}
-use Rattle.scfs_machine.specs.Names.{same_file}
 use Rattle.scfs_machine.specs.Tree.{Node, Lock, node_at, session_lock, is_lock_by, is_node_at}
 use Rattle.scfs_machine.specs.Walks.{OrRefusal, on_ok}
 use Rattle.scfs_machine.specs.SessionSteps.{Commit, Session_outcome, Completes, still_held, with_version, session_outcome}

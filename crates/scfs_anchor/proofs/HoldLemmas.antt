@@ -1,4 +1,4 @@
-use Rattle.std.proofs.Common.{◌≡◌, ℕ, ◌+◌, ◌<◌, ◌≤◌, ◌^◌, List, [], ◌∷◌, map, Bool, true, false, refl, ap, ◌∙◌, sym, subst, arith}
+use Rattle.std.proofs.Common.{◌≡◌, ℕ, ◌+◌, ◌<◌, ◌≤◌, List, [], ◌∷◌, map, Bool, true, false, refl, ap, ◌∙◌, sym, subst, arith}
 use Rattle.std.specs.Prelude.{nat_lt}
 use Rattle.std.specs.List.{filter}
 use Rattle.std.proofs.lemmas.Bool.Decides.{nat_tests}
@@ -19,7 +19,7 @@ use Rattle.scfs_anchor.specs.Tree.{Each, Apart, IsEntry, IsTree}
 use Rattle.scfs_anchor.specs.Items.{Item, Of_node, Of_version, Of_lock, lock_said, entry_of, entries_of, space_of, nodes, versions, locks, tree_of, is_live, live}
 use Rattle.scfs_anchor.specs.StepPlans.{step_on_tuples}
 use Rattle.scfs_anchor.specs.StepReplies.{IsReplyTo, FitsOutcome}
-use Rattle.scfs_anchor.specs.Holding.{IsAskable, IsRequest, IsFresh, LockFiles, HaveAtMost, Holds, ServesAlike, EmptyHolds, HoldsOn, StepsServeAlike}
+use Rattle.scfs_anchor.specs.Holding.{IsAskable, IsRequest, IsFresh, LockFiles, HaveAtMost, ServesAlike, EmptyHolds, HoldsOn, StepsServeAlike}
 use Rattle.scfs_anchor.proofs.OpenLemmas.{file_fits}
 use Rattle.scfs_anchor.proofs.Alike.{name_items, session_items}
 use Rattle.scfs_anchor.proofs.ItemLemmas.{live_said, live_space, nodes_live, versions_live, locks_live, locks_said, tree_live}
@@ -29,7 +29,7 @@ use Rattle.scfs_anchor.proofs.LookLemmas.{look_walks, look_alike}
 use Rattle.scfs_anchor.proofs.UnlockLemmas.{lock_items, locks_alike}
 use Rattle.scfs_anchor.proofs.OpenStepLemmas.{read_walks, read_alike, read_fits, write_walks, write_alike, write_fits}
 use Rattle.scfs_anchor.proofs.CommitStepLemmas.{commit_alike, commit_fits}
-use Rattle.scfs_anchor.proofs.FitLemmas.{directory_fits, make_fits, look_fits, locks_apart, locks_fit}
+use Rattle.scfs_anchor.proofs.FitLemmas.{directory_fits, make_fits, look_fits, locks_fit}
 use Rattle.scfs_anchor.proofs.ListLemmas.{each_map, each_unmap, each_also, each_filter, apart_unmap, apart_filter}
 use Rattle.scfs_anchor.proofs.WholeLemmas.{same_lock, Whole, whole_of, stands_live}
 use Rattle.scfs_anchor.proofs.StayLemmas.{Before, Stays, stay, make_stays, look_stays, locks_stay, read_stays, file_alone, write_stays, tree_named, tree_opened}

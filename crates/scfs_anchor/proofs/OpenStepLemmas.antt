@@ -4,7 +4,6 @@ use Rattle.std.proofs.lemmas.List.{map-append}
 use Rattle.scfs_base.specs.declared.naming.FileId.{FileId}
 use Rattle.scfs_base.specs.declared.naming.RequestNo.{RequestNo}
 use Rattle.scfs_tuples.specs.After.{reply_of, left_after, reply_among, left_among}
-use Rattle.scfs_tuples.specs.declared.types.Reply.{Reply}
 use Rattle.scfs_tuples.specs.declared.types.Tuple.{Tuple}
 use Rattle.scfs_machine.specs.Layers.{Row, rows}
 use Rattle.scfs_machine.specs.Names.{same_file, root_id}
@@ -13,14 +12,14 @@ use Rattle.scfs_machine.specs.Walks.{OrRefusal, on_ok, unlocked}
 use Rattle.scfs_machine.specs.SessionSteps.{Open_read, Open_write, Session_outcome, Sees, Locks, sight_of, new_lock, session_outcome}
 use Rattle.scfs_machine.specs.SessionSteps as machine
 use Rattle.scfs_anchor.specs.Shapes.{root}
-use Rattle.scfs_anchor.specs.Plans.{step_of, open_read, open_write}
+use Rattle.scfs_anchor.specs.Plans.{step_of, open_read}
 use Rattle.scfs_anchor.specs.Tree as anchor
-use Rattle.scfs_anchor.specs.Tree.{Entry, OfLock, Each, IsEntry, IsTree, tuples_of}
+use Rattle.scfs_anchor.specs.Tree.{Entry, Each, IsEntry, IsTree, tuples_of}
 use Rattle.scfs_anchor.specs.Laws.{AnswersSight}
 use Rattle.scfs_anchor.specs.Replies.{ShowsSight}
 use Rattle.scfs_anchor.specs.Items.{Item, Of_node, Of_version, Of_lock, row_said, lock_said, entry_of, entries_of, space_of, versions, locks, tree_of, live}
 use Rattle.scfs_anchor.specs.StepPlans.{session_plan}
-use Rattle.scfs_anchor.specs.StepReplies.{sight_said, IsSessionReply, FitsVersion, FitsSight, FitsSessions}
+use Rattle.scfs_anchor.specs.StepReplies.{sight_said, FitsVersion, FitsSight, FitsSessions}
 use Rattle.scfs_anchor.specs.declared.seen.Sight.{Sight}
 use Rattle.scfs_anchor.specs.declared.seen.VersionRow.{VersionRow}
 use Rattle.scfs_anchor.proofs.OpenLemmas.{opens_at_tree, file_fits, FileFits}

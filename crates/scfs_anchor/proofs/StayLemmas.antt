@@ -18,7 +18,7 @@ use Rattle.scfs_machine.specs.SessionSteps.{Session_outcome, Locks, sight_of, ne
 use Rattle.scfs_machine.specs.Steps.{after_ok}
 use Rattle.scfs_anchor.specs.Tree as anchor
 use Rattle.scfs_anchor.specs.Tree.{Each, Apart, IsEntry, IsTree}
-use Rattle.scfs_anchor.specs.Items.{Item, Of_node, Of_version, Of_lock, node_said, entry_of, entries_of, nodes, versions, locks, tree_of}
+use Rattle.scfs_anchor.specs.Items.{Item, Of_node, Of_lock, node_said, entry_of, entries_of, nodes, versions, locks, tree_of}
 use Rattle.scfs_anchor.specs.Items as item
 use Rattle.scfs_anchor.specs.StepPlans.{last_name}
 use Rattle.scfs_anchor.specs.Holding.{LockFiles, HaveAtMost}

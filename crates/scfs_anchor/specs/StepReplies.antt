@@ -13,7 +13,7 @@ use Rattle.scfs_machine.specs.Layers.{Row}
 use Rattle.scfs_machine.specs.Tree.{Node, Lock}
 use Rattle.scfs_machine.specs.Walks.{OrRefusal, root_node}
 use Rattle.scfs_machine.specs.NameSteps.{Name_step, Make, Look, Name_outcome, Makes, Shows}
-use Rattle.scfs_machine.specs.LockSteps.{Lock_step, Unlock, Lock_outcome, Frees}
+use Rattle.scfs_machine.specs.LockSteps.{Lock_step, Lock_outcome, Frees}
 use Rattle.scfs_machine.specs.SessionSteps.{Session_step, Open_read, Open_write, Commit, Session_outcome, Sees, Locks, Completes}
 use Rattle.scfs_machine.specs.SessionSteps as machine
 use Rattle.scfs_machine.specs.Steps.{Outcome, Of_names, Of_locks, Of_sessions}

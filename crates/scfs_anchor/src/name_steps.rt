@@ -2,7 +2,7 @@ ghost use Rattle.std.specs.Prelude.{◌≡◌, ◌≢◌, ◌≤◌, ◌<◌, �
 ghost use Rattle.scfs_tuples.specs.Steps.{IsStep};
 ghost use Rattle.scfs_anchor.specs.Shapes as shapes;
 ghost use Rattle.scfs_anchor.specs.Plans.{Condition, step_of, reach, before_last};
-ghost use Rattle.scfs_anchor.specs.StepPlans.{create, stat, free, there, file_template, new_file, nothing_more, parent_of, last_name};
+ghost use Rattle.scfs_anchor.specs.StepPlans.{create, stat, there, file_template, nothing_more, parent_of, last_name};
 
 use crate::Path;
 use crate::conditions::ask_directory;

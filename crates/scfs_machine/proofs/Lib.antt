@@ -5,6 +5,7 @@ mod SharedFile
 mod LyingClouds
 mod Closes
 mod LocalCalls
+mod Clocked
 pub mod ListMaps
 pub mod AgentMaps
 pub mod OpenMaps

@@ -7,6 +7,8 @@ use Rattle.scfs_schedule.specs.declared.types.Call.TheVariants as calls
 use Rattle.scfs_schedule.specs.declared.types.Line.{Line}
 use Rattle.scfs_schedule.specs.declared.types.Line.TheVariants as lines
 use Rattle.scfs_schedule.specs.declared.types.Src.TheVariants as srcs
+use Rattle.scfs_schedule.specs.declared.types.Kind.TheVariants as kinds
+use Rattle.scfs_schedule.specs.declared.types.How.TheVariants as hows
 use Rattle.scfs_schedule.specs.declared.types.Sum.TheVariants as sums
 use Rattle.scfs_machine.specs.Names.{request_no, upload_no, file_id}
 use Rattle.scfs_machine.proofs.ShortFormat.{short_object, setup}
@@ -88,3 +90,41 @@ read_well_made = refl
 read_well_due : due_of (setup 1 2) read_well ≡ read_well_lines
 unfolding hex_pair
 read_well_due = refl
+
+-- an agent that asks what the file is finds the version and the size that were committed
+abbrev pub looks : List Event
+looks = begins ++ commits ++ events.Call 1 (calls.Stat path_a) ∷ events.Space 1 ∷ events.Told 1 ∷ []
+
+abbrev pub looks_lines : List (List Line)
+looks_lines =
+    begins_lines
+    ++ commits_lines ++ [] ∷ (lines.Looked (request_no 1 0 1) ∷ []) ∷ (lines.OkStat 1 kinds.File (file_id 0 0 1) 1 2 hows.Fresh ∷ []) ∷ []
+
+looks_made : lines_of (setup 1 2) looks ≡ looks_lines
+unfolding hex_pair
+looks_made = refl
+
+looks_due : due_of (setup 1 2) looks ≡ looks_lines
+unfolding hex_pair
+looks_due = refl
+
+-- a cloud that answers one request twice is one cloud: the second answer opens nothing
+abbrev pub answered_twice : List Event
+answered_twice =
+    to_open ++ events.Serve 0 ∷ events.Twice 0 ∷ events.Give 0 ∷ events.Give 0 ∷ events.Serve 1 ∷ events.Give 1 ∷ []
+
+abbrev pub answered_twice_lines : List (List Line)
+answered_twice_lines =
+    to_open_lines
+    ++ (lines.Did 0 (request_no 1 0 2) (sums.Bytes 170 (sha_of 0)) ∷ []) ∷ []
+    ∷ (lines.Gave 0 (request_no 1 0 2) (sums.Bytes 170 (sha_of 0)) ∷ []) ∷ (lines.Gave 0 (request_no 1 0 2) (sums.Bytes 170 (sha_of 0)) ∷ [])
+    ∷ (lines.Did 1 (request_no 1 0 3) (sums.Bytes 170 (sha_of 1)) ∷ [])
+    ∷ (lines.Gave 1 (request_no 1 0 3) (sums.Bytes 170 (sha_of 1)) ∷ lines.Opened 1 1 1 srcs.Clouds 2 ∷ []) ∷ []
+
+answered_twice_made : lines_of (setup 1 2) answered_twice ≡ answered_twice_lines
+unfolding hex_pair
+answered_twice_made = refl
+
+answered_twice_due : due_of (setup 1 2) answered_twice ≡ answered_twice_lines
+unfolding hex_pair
+answered_twice_due = refl
