@@ -8,9 +8,9 @@ use Rattle.scfs_schedule.specs.declared.types.Line.TheVariants as lines
 use Rattle.scfs_tuples.specs.declared.types.Field.{Field}
 use Rattle.scfs_anchor.specs.Fields.{number_at, number_in}
 use Rattle.scfs_anchor.specs.Tree.{kind_number}
-use Rattle.scfs_model.specs.Tree.{Node}
-use Rattle.scfs_agent.specs.Acting.{kind_of, stat_line}
-use Rattle.scfs_agent.specs.Anchored.{seen_fields}
+use Rattle.scfs_machine.specs.Tree.{Node}
+use Rattle.scfs_agent.specs.Telling.{kind_of, stat_line}
+use Rattle.scfs_anchor.specs.StepReplies.{seen_fields}
 
 -- a field behind others
 behind : (before rest : List Field) (k : ℕ) → slice_get (before ++ rest) (length before + k) ≡ slice_get rest k

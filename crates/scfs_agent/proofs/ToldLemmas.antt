@@ -1,108 +1,164 @@
--- An agent is told the step that its call waits for.
-use Rattle.std.proofs.Common.{◌≡◌, ℕ, ◌≤◌, List, [], ◌∷◌, length, false, cond, refl, ap, sym, ◌∙◌, subst, Option, Some, None, Contains}
+-- What the space's reply shows, by what the step came to on the machine.
+use Rattle.std.proofs.Common.{◌≡◌, ℕ, List, [], ◌∷◌, Bool, true, false, Option, Some, None, Result, Ok, Err, refl, sym, ap, ◌∙◌, subst}
+use Rattle.std.specs.Prelude.{◌↔◌, IfSome, IsTrue, OnOk, option_map}
+use Rattle.scfs_base.specs.declared.naming.FileId.{FileId}
 use Rattle.scfs_base.specs.declared.naming.RequestNo.{RequestNo}
-use Rattle.scfs_schedule.specs.declared.types.Event.TheVariants as events
-use Rattle.scfs_schedule.specs.declared.types.Header.{Header}
-use Rattle.scfs_schedule.specs.declared.types.Line.{Line}
+use Rattle.scfs_schedule.specs.declared.types.How.TheVariants as hows
 use Rattle.scfs_schedule.specs.declared.types.Line.TheVariants as lines
 use Rattle.scfs_schedule.specs.declared.types.Refusal.{Refusal}
+use Rattle.scfs_tuples.specs.declared.types.Field.{Field}
 use Rattle.scfs_tuples.specs.declared.types.Reply.{Reply}
-use Rattle.scfs_anchor.specs.Replies.{refusal_in}
-use Rattle.scfs_model.specs.Lists.{if_some}
-use Rattle.scfs_model.specs.UnitFormat.{under}
-use Rattle.scfs_model.specs.History.{Message, History}
-use Rattle.scfs_model.specs.Ranks.{Counted}
-use Rattle.scfs_model.specs.Run.{facts_told}
-use Rattle.scfs_model.specs.Steps.{Step, Outcome}
-use Rattle.scfs_model.specs.Agents.{Agent, Ask, Tells, For_step, Response, followed, reaction_of, saying as says_one}
-use Rattle.scfs_model.specs.Reactions.{Of_answers, no_verdict, reacted, untold, next_begun}
-use Rattle.scfs_agent.specs.Acting.{Done, silent, saying, refuses, idle, told_at, told_call, on_told}
-use Rattle.scfs_agent.specs.Acts.{all_facts, calls_row, facts_of, ranks_at}
-use Rattle.scfs_agent.specs.Anchored.{step_of, IsRefusal}
-use Rattle.scfs_agent.specs.Reacting.{entry_of}
-use Rattle.scfs_agent.specs.State.{AgentState}
-use Rattle.scfs_agent.specs.Standing.{state_of, IsAgent, HasDrawn, is_unlock, purpose_of, step_work, step_asked}
-use Rattle.scfs_agent.specs.declared.work.AskedStep.{AskedStep}
-use Rattle.scfs_agent.specs.declared.work.Purpose.{Purpose}
-use Rattle.scfs_agent.specs.declared.work.Work.TheVariants as works
-use Rattle.scfs_agent.proofs.AgreeLemmas.{Agrees, only_says}
-use Rattle.scfs_agent.proofs.AnswerLemmas.{agrees_answered}
-use Rattle.scfs_agent.proofs.OwnLemmas.{HasNoPut}
-use Rattle.scfs_agent.proofs.PendingLemmas.{awaited_is, same_itself}
+use Rattle.scfs_tuples.specs.declared.types.Step as tuples
+use Rattle.scfs_tuples.specs.declared.types.StepResult.{StepResult}
+use Rattle.scfs_tuples.specs.declared.types.StepResult.TheVariants as results
+use Rattle.scfs_tuples.specs.declared.types.Tuple.{Tuple}
+use Rattle.scfs_anchor.specs.Plans.{step_of}
+use Rattle.scfs_anchor.specs.Replies.{sight_of, ShowsSight}
+use Rattle.scfs_anchor.specs.Items.{row_said}
+use Rattle.scfs_anchor.specs.StepPlans.{name_plan, session_plan}
+use Rattle.scfs_anchor.specs.StepReplies.{IsDone, IsRefusal, HasShown, sight_said, IsNameReply, IsSessionReply, FitsNames, FitsSight, FitsVersion, FitsSessions}
+use Rattle.scfs_anchor.specs.declared.seen.Sight.{Sight}
+use Rattle.scfs_anchor.proofs.ReplyLemmas.{sight_read}
+use Rattle.scfs_machine.specs.Format.{Setup}
+use Rattle.scfs_machine.specs.Layers.{Row, rows}
+use Rattle.scfs_machine.specs.Tree.{Node}
+use Rattle.scfs_machine.specs.Walks.{OrRefusal}
+use Rattle.scfs_machine.specs.Given.{Given}
+use Rattle.scfs_machine.specs.NameSteps.{Look, Name_outcome, Makes, Shows}
+use Rattle.scfs_machine.specs.SessionSteps as machine
+use Rattle.scfs_machine.specs.SessionSteps.{Session_step, Open_read, Open_write, Commit, Session_outcome, Sees, Locks, Completes}
+use Rattle.scfs_machine.specs.Sayings.{said_by}
+use Rattle.scfs_machine.specs.Sayings as says
+use Rattle.scfs_machine.specs.Agents.{Agent, Reaction}
+use Rattle.scfs_machine.specs.Opens.{Found, As_empty, On_clouds, found, saw, sighted}
+use Rattle.scfs_machine.specs.Told.{told_open, name_answer}
+use Rattle.scfs_agent.specs.Views.{row_of}
+use Rattle.scfs_agent.specs.Keeping.{IsRow}
+use Rattle.scfs_agent.specs.Telling.{FitsSeen, sight_meant, open_step, stat_line}
+use Rattle.scfs_agent.proofs.StatLemmas.{stat_read}
 
--- the agent asks the rank rule what the file map does, and agrees with the file map's agent
-abbrev pub Follows : Header → (a i : ℕ) → Agent → List Counted → History → (ranks : List ℕ) → RequestNo → Reply → Step → Outcome → Type 0
-Follows header a i m counted own ranks request reply step o =
-    let s = under header in
-    let old = state_of s a i m counted own in
-    (facts_of old request reply.result ≡ facts_told s counted o)
-    × Agrees s a counted own (events.Told a) ranks (on_told old ranks request reply) (reacted s Of_answers a m ranks no_verdict (Tells request step o))
+-- a result is one or the other
+abbrev pub IsRefused : StepResult → Type 0
+IsRefused (results.Did bound taken shown) = ⊥
+IsRefused (results.Refused index found) = Unit {0}
 
--- an agent whose call waits for its step
-abbrev pub at_step : Agent → Agent
-at_step m = record m { waiting = Some For_step; closed = [] }
+not_both : (result : StepResult) → IsDone result → IsRefused result → ⊥
+not_both (results.Did bound taken shown) done refused = refused
+not_both (results.Refused index found) done refused = done
 
--- a step that is told, as the agent asked it
-module _ (header : Header) (a i : ℕ) (m : Agent) (counted : List Counted) (own : History) (ranks : List ℕ) (request : RequestNo) (reply : Reply) (step : Step)
-    (valid : IsAgent (under header) a (at_step m) own) (drawn : HasDrawn i m) (few : length counted ≤ i)
-    (waits : is_unlock step ≡ false) (has : Contains m.pending (record { request = request; step = step })) where
-  abbrev old : AgentState
-  old = state_of (under header) a i (at_step m) counted own
+refused_is : (step : tuples.Step) (why : Refusal) (result : StepResult) → IsRefusal step why result → IsRefused result
+refused_is step why result h = subst IsRefused (sym h.2) tt
 
-  abbrev asked : AskedStep
-  asked = record { request = request; step = step_of (under header) request step }
+pub did_is : (result : StepResult) (bound : List Field) (taken : ℕ) (shown : List (List Tuple)) → result ≡ results.Did bound taken shown → IsDone result
+did_is result bound taken shown e = subst IsDone (sym e) tt
 
-  -- it agrees where it does this, and the file map's agent that
-  abbrev pub Answers : Done → Response → Type 0
-  Answers done r =
-      Agrees (under header) a counted own (events.Told a) ranks done
-      (reaction_of a (followed r (λ (after : Agent). next_begun (under header) a after after.closed)))
+pub sight_is : (reply : Reply) (seen : Sight) → ShowsSight reply seen → IsDone reply.result
+sight_is reply seen h = subst IsDone (sym h.result) tt
 
-  -- its work
-  work_is : (purpose : Purpose) → purpose_of step ≡ Some purpose → old.work ≡ works.Step asked purpose
-  work_is purpose is_for =
-      let x : Ask = record { request = request; step = step } in
-      ap (step_work (under header)) (awaited_is m.pending x waits valid.alone has)
-      ∙ ap (λ (o : Option Purpose). if_some o works.Idle (works.Step (step_asked (under header) x))) is_for
+-- a look
+abbrev pub is_root : List (List ℕ) → Bool
+is_root [] = true
+is_root (name ∷ names) = false
 
-  told_is : (purpose : Purpose) → purpose_of step ≡ Some purpose → told_call old ranks asked purpose reply.result ≡ on_told old ranks request reply
-  told_is purpose is_for =
-      sym (ap (told_at old ranks request reply.result) (work_is purpose is_for)
-      ∙ ap (λ b. cond b (told_call old ranks asked purpose reply.result) (silent old)) (same_itself request))
+pub root_is : (names : List (List ℕ)) (b : Bool) → IsTrue b ↔ (names ≡ []) → b ≡ is_root names
+root_is [] true h = refl
+root_is [] false h = let e : false ≡ true = h.1 refl in cc
+root_is (name ∷ names) true h = let e : name ∷ names ≡ [] = h.0 refl in cc
+root_is (name ∷ names) false h = refl
 
-  facts_are : (purpose : Purpose) → purpose_of step ≡ Some purpose → facts_of old request reply.result ≡ cond (calls_row purpose reply.result) (all_facts old) []
-  facts_are purpose is_for =
-      ap (λ b. cond b (all_facts old) [])
-      (ap (ranks_at request reply.result) (work_is purpose is_for) ∙ ap (λ b. cond b (calls_row purpose reply.result) false) (same_itself request))
+abbrev Bound : (a : ℕ) → List (List ℕ) → Node → StepResult → Type 0
+Bound a names n (results.Did bound taken shown) = stat_line a (is_root names) bound ≡ lines.OkStat a n.kind n.id n.newest n.size hows.Fresh
+Bound a names n (results.Refused index found) = Unit {0}
 
-  pub follows_by : (purpose : Purpose) (o : Outcome) → purpose_of step ≡ Some purpose
-      → cond (calls_row purpose reply.result) (all_facts old) [] ≡ facts_told (under header) counted o
-      → Agrees (under header) a counted own (events.Told a) ranks (told_call old ranks asked purpose reply.result)
-      (reacted (under header) Of_answers a (at_step m) ranks no_verdict (Tells request step o))
-      → Follows header a i (at_step m) counted own ranks request reply step o
-  follows_by purpose o is_for facts agrees = (
-    facts_are purpose is_for ∙ facts,
-    subst (λ (d : Done). Agrees (under header) a counted own (events.Told a) ranks d
-        (reacted (under header) Of_answers a (at_step m) ranks no_verdict (Tells request step o)))
-        (told_is purpose is_for) agrees,
-  )
+look_bound : (a : ℕ) (names : List (List ℕ)) (n : Node) (result : StepResult) → HasShown names n result → FitsNames (Look names) (Ok (Shows n))
+    → Bound a names n result
+look_bound a [] n (results.Did bound taken shown) h fits =
+    ap (λ (m : Node). lines.OkStat a m.kind m.id m.newest m.size hows.Fresh) (sym fits)
+look_bound a [] n (results.Refused index found) h fits = tt
+look_bound a (name ∷ names) n result h fits = subst (Bound a (name ∷ names) n) (sym h.1) (stat_read a h.0 n)
 
-  -- its call is answered in one line
-  pub answers_line : (line : Line) → ((message : Option Message) → HasNoPut (entry_of (under header) (events.Told a) message ranks [] (only_says m (line ∷ []))))
-      → Answers (saying (idle old) line) (says_one (record (untold request (at_step m)) { waiting = None }) line)
-  answers_line line none =
-      agrees_answered (under header) a i (at_step m) counted own (events.Told a) ranks (record { request = request; step = step }) m.sessions (line ∷ [])
-      valid (record { opens = drawn.opens; files = drawn.files; uploads = drawn.uploads }) few waits has valid.sessions none
+pub look_done : (a : ℕ) (names : List (List ℕ)) (r : OrRefusal Name_outcome) (reply : Reply) (bound : List Field) (taken : ℕ) (shown : List (List Tuple))
+    → IsNameReply (Look names) r reply → FitsNames (Look names) r → reply.result ≡ results.Did bound taken shown
+    → stat_line a (is_root names) bound ≡ said_by a (name_answer r)
+look_done a names (Err why) reply bound taken shown h fits e =
+    absurd (not_both reply.result (did_is reply.result bound taken shown e) (refused_is (step_of (name_plan (Look names))) why reply.result h))
+look_done a names (Ok (Makes n)) reply bound taken shown h fits e = absurd h
+look_done a names (Ok (Shows n)) reply bound taken shown h fits e = subst (Bound a names n) e (look_bound a names n reply.result h fits)
 
-  -- its step was refused
-  pub answers_refusal : (purpose : Purpose) (why : Refusal) → IsRefusal (step_of (under header) request step) why reply.result
-      → Answers (told_call old ranks asked purpose reply.result) (says_one (record (untold request (at_step m)) { waiting = None }) (lines.No a why))
-  answers_refusal purpose why (index, found, is, reason) =
-      subst (λ (d : Done). Answers d (says_one (record (untold request (at_step m)) { waiting = None }) (lines.No a why)))
-      (sym (ap (told_call old ranks asked purpose) is
-      ∙ ap (refuses (idle old)) (ap (refusal_in (step_of (under header) request step).conds) (sym is) ∙ reason)))
-      (answers_line (lines.No a why) (λ message name. refl))
+-- a sight that says the same of the file and its version
+meant_version : (o : Option Row) → option_map row_of (option_map row_said o) ≡ o
+meant_version None = refl
+meant_version (Some v) = refl
 
-  pub no_facts : (purpose : Purpose) (why : Refusal) → IsRefusal (step_of (under header) request step) why reply.result
-      → cond (calls_row purpose reply.result) (all_facts old) [] ≡ []
-  no_facts purpose why (index, found, is, reason) = ap (λ r. cond (calls_row purpose r) (all_facts old) []) is
+sighted_same : (s : Setup) (a : ℕ) (agent : Agent Row) (given : Given) (h : ℕ) (writes : Bool) (x y : machine.Sight Row) (at : Found Row) → x.file ≡ y.file
+    → x.number ≡ y.number → sighted s rows a agent given h writes x at ≡ sighted s rows a agent given h writes y at
+sighted_same s a agent given h writes x y As_empty file number =
+    let P : FileId → ℕ → Reaction Row = λ f n. sighted s rows a agent given h writes (record x { file = f; number = n }) As_empty in
+    ap (λ (f : FileId). P f x.number) file ∙ ap (P y.file) number
+sighted_same s a agent given h writes x y (On_clouds v) file number = refl
+
+saw_same : (s : Setup) (a : ℕ) (agent : Agent Row) (given : Given) (request : RequestNo) (h : ℕ) (writes : Bool) (sight : machine.Sight Row)
+    → saw s rows a agent given request h writes sight ≡ saw s rows a agent given request h writes (sight_meant (sight_said sight))
+saw_same s a agent given request h writes sight =
+    let next : Agent Row = agent in
+    let meant = sight_meant (sight_said sight) in
+    let found_same : found sight ≡ found meant = ap (λ (o : Option Row). found (record sight { version = o })) (sym (meant_version sight.version)) in
+    let after : Reaction Row → Reaction Row = λ second. record {
+      agent = second.agent;
+      says = says.Saw request sight.file sight.number ∷ second.says;
+      steps = second.steps;
+      sent = second.sent;
+      ranked = second.ranked;
+    } in
+    ap after (sighted_same s a next given h writes sight meant (found sight) refl refl)
+    ∙ ap (λ (x : Found Row). after (sighted s rows a next given h writes meant x)) found_same
+
+-- an open whose step was done
+open_sees : (s : Setup) (a : ℕ) (agent : Agent Row) (given : Given) (request : RequestNo) (writes : Bool) (h : ℕ) (sight : machine.Sight Row) (reply : Reply)
+    → ShowsSight reply (sight_said sight)
+    → saw s rows a agent given request h writes (sight_meant (sight_of reply.result)) ≡ saw s rows a agent given request h writes sight
+open_sees s a agent given request writes h sight reply is =
+    ap (λ (seen : Sight). saw s rows a agent given request h writes (sight_meant seen)) (sight_read reply (sight_said sight) is)
+    ∙ sym (saw_same s a agent given request h writes sight)
+
+pub open_done : (s : Setup) (a lease : ℕ) (agent : Agent Row) (given : Given) (request : RequestNo) (writes : Bool) (names : List (List ℕ)) (h : ℕ)
+    (r : OrRefusal (Session_outcome Row)) (reply : Reply) → IsSessionReply lease request (open_step writes names h) r reply → IsDone reply.result
+    → saw s rows a agent given request h writes (sight_meant (sight_of reply.result)) ≡ told_open s rows a agent given request h r
+open_done s a lease agent given request true names h (Err why) reply is done =
+    absurd (not_both reply.result done (refused_is (step_of (session_plan lease request (Open_write names h))) why reply.result is))
+open_done s a lease agent given request false names h (Err why) reply is done =
+    absurd (not_both reply.result done (refused_is (step_of (session_plan lease request (Open_read names h))) why reply.result is))
+open_done s a lease agent given request true names h (Ok (Sees sight)) reply is done = absurd is
+open_done s a lease agent given request true names h (Ok (Locks sight l)) reply is done = open_sees s a agent given request true h sight reply is
+open_done s a lease agent given request true names h (Ok (Completes of it n)) reply is done = absurd is
+open_done s a lease agent given request false names h (Ok (Sees sight)) reply is done = open_sees s a agent given request false h sight reply is
+open_done s a lease agent given request false names h (Ok (Locks sight l)) reply is done = absurd is
+open_done s a lease agent given request false names h (Ok (Completes of it n)) reply is done = absurd is
+
+-- what it saw fits
+version_fits : (o : Option Row) → FitsVersion o → IfSome (option_map row_said o) IsRow
+version_fits None fits = tt
+version_fits (Some v) fits = record { short = fits.2; last = fits.1 }
+
+seen_fits : (sight : machine.Sight Row) (reply : Reply) → ShowsSight reply (sight_said sight) → FitsSight sight → FitsSeen (sight_of reply.result)
+seen_fits sight reply is fits =
+    subst FitsSeen (sym (sight_read reply (sight_said sight) is)) (record { newest = fits.1; row = version_fits sight.version fits.2 })
+
+pub open_fits : (lease : ℕ) (request : RequestNo) (writes : Bool) (names : List (List ℕ)) (h : ℕ) (r : OrRefusal (Session_outcome Row)) (reply : Reply)
+    → IsSessionReply lease request (open_step writes names h) r reply → FitsSessions (open_step writes names h) r → IsDone reply.result
+    → FitsSeen (sight_of reply.result)
+open_fits lease request true names h (Err why) reply is fits done =
+    absurd (not_both reply.result done (refused_is (step_of (session_plan lease request (Open_write names h))) why reply.result is))
+open_fits lease request false names h (Err why) reply is fits done =
+    absurd (not_both reply.result done (refused_is (step_of (session_plan lease request (Open_read names h))) why reply.result is))
+open_fits lease request true names h (Ok (Sees sight)) reply is fits done = absurd is
+open_fits lease request true names h (Ok (Locks sight l)) reply is fits done = seen_fits sight reply is fits
+open_fits lease request true names h (Ok (Completes of it n)) reply is fits done = absurd is
+open_fits lease request false names h (Ok (Sees sight)) reply is fits done = seen_fits sight reply is fits
+open_fits lease request false names h (Ok (Locks sight l)) reply is fits done = absurd is
+open_fits lease request false names h (Ok (Completes of it n)) reply is fits done = absurd is
+
+-- what holds however a call ended
+pub on_ok_so : {X E P : Type 0} (r : Result X E) → P → OnOk r P
+on_ok_so (Ok x) h = h
+on_ok_so (Err e) h = tt

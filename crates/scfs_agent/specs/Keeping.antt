@@ -1,125 +1,184 @@
-use Rattle.std.specs.Prelude.{◌≡◌, ◌≢◌, ◌<◌, ◌≤◌, ◌^◌, ℕ, ◌+◌, ◌*◌, List, [], ◌∷◌, length, codes, Bool, true, false, Some, None}
+use Rattle.std.specs.Prelude.{◌≡◌, ◌≢◌, ◌<◌, ◌≤◌, ◌^◌, ℕ, ◌+◌, ◌*◌, List, [], ◌∷◌, length, map, cond, Bool, true, false, ◌||◌, ◌==◌, Option, Some, None}
+use Rattle.std.specs.List.{All, list_any}
 use Rattle.scfs_base.specs.Limits.{contents_limit}
-use Rattle.scfs_base.specs.declared.naming.FileId.{FileId}
-use Rattle.scfs_tuples.specs.declared.types.Template.{Template}
 use Rattle.scfs_policy.specs.declared.rank.RankFacts.{RankFacts}
-use Rattle.scfs_session.specs.declared.sessions.Ended.{Ended}
+use Rattle.scfs_schedule.specs.Grammar.{IsHeader}
+use Rattle.scfs_schedule.specs.declared.types.Header.{Header}
 use Rattle.scfs_session.specs.declared.sessions.Session.{Session}
-use Rattle.scfs_anchor.specs.Plans.{Condition}
-use Rattle.scfs_anchor.specs.Shapes.{given, given_text}
-use Rattle.scfs_quorum_read.specs.Reading.{Told}
-use Rattle.scfs_quorum_read.specs.Tracking.{IsOrder, StandsFor}
+use Rattle.scfs_session.specs.Open.{OpenSessions}
+use Rattle.scfs_tuples.specs.Steps.{IsStep}
+use Rattle.scfs_unit.specs.declared.pieces.KeptPiece.{KeptPiece}
+use Rattle.scfs_quorum_read.specs.Tracking.{IsOrder}
 use Rattle.scfs_quorum_read.specs.declared.steps.ReadStep.{ReadStep}
 use Rattle.scfs_quorum_read.specs.declared.steps.ReadStep.TheVariants as read_steps
-use Rattle.scfs_model.specs.Run.{Answers}
-use Rattle.scfs_agent.specs.Anchored.{parent_of}
+use Rattle.scfs_quorum_write.specs.Acks.{count_of}
+use Rattle.scfs_anchor.specs.declared.seen.VersionRow.{VersionRow}
+use Rattle.scfs_machine.specs.Lists.{below}
+use Rattle.scfs_machine.specs.Asked as requests
+use Rattle.scfs_machine.specs.Layers.{Row}
+use Rattle.scfs_machine.specs.SessionSteps.{Open_read, Open_write, Commit}
+use Rattle.scfs_machine.specs.Steps.{Step, On_names, On_locks, On_sessions}
+use Rattle.scfs_machine.specs.Agents as machine
+use Rattle.scfs_machine.specs.Agents.{Waiting, For_step, For_clouds, For_close, Closed, Request}
 use Rattle.scfs_agent.specs.State.{AgentState}
-use Rattle.scfs_agent.specs.Acting.{IsTold, on_call, on_told, on_heard, on_turn, DoesAs}
-use Rattle.scfs_agent.specs.Acts.{facts_of}
-use Rattle.scfs_agent.specs.declared.types.Input.{Input}
-use Rattle.scfs_agent.specs.declared.types.Input.TheVariants as inputs
+use Rattle.scfs_agent.specs.Settled.{OneBegun}
+use Rattle.scfs_agent.specs.Views.{asked_of, acked_of, turns_left, row_of, waiting_of, request_of}
+use Rattle.scfs_agent.specs.Asking.{MayClose}
 use Rattle.scfs_agent.specs.declared.types.Output.{Output}
+use Rattle.scfs_agent.specs.declared.types.Output.TheVariants as outputs
+use Rattle.scfs_agent.specs.declared.work.Asking.{Asking}
+use Rattle.scfs_agent.specs.declared.work.Asking.TheVariants as askings
 use Rattle.scfs_agent.specs.declared.work.Fetch.{Fetch}
+use Rattle.scfs_agent.specs.declared.work.Pending.{Pending}
 use Rattle.scfs_agent.specs.declared.work.Upload.{Upload}
 use Rattle.scfs_agent.specs.declared.work.Work.{Work}
 use Rattle.scfs_agent.specs.declared.work.Work.TheVariants as works
 
--- What holds of every agent, and the words in which its methods speak of one another.
+-- What holds of every agent.
 
--- what holds of an open that reads the clouds: its tracker stands for something that it was told, and is not at its end
-pub record IsFetch (f : ℕ) (fetch : Fetch) : Type 0 where
+-- a version that is read: its numbers fit
+pub record IsRow (row : VersionRow) : Type 0 where
+  pub short : row.length ≤ contents_limit
+  pub last : row.number ≤ 1000000
+
+-- the clouds of the Gets, and these, are those that the tracker asked
+abbrev pub AreAsked : List requests.Asked → (more asked : List ℕ) → Type 0
+AreAsked gets more asked =
+    (c : ℕ) → (list_any (λ (x : requests.Asked). x.cloud == c) gets || list_any (λ other. other == c) more) ≡ list_any (λ other. other == c) asked
+
+-- clouds that were asked are of the order
+abbrev pub AreOf : (order asked : List ℕ) → Type 0
+AreOf order asked = (c : ℕ) → list_any (λ other. other == c) asked ≡ true → list_any (λ other. other == c) order ≡ true
+
+-- a cloud with a good piece was asked
+abbrev pub WereAsked : List KeptPiece → (asked : List ℕ) → Type 0
+WereAsked pieces asked = (c : ℕ) → list_any (λ (p : KeptPiece). p.cloud == c) pieces ≡ true → list_any (λ other. other == c) asked ≡ true
+
+-- an open that reads the clouds, once Gets of these clouds are asked: its reading is not at its end
+pub record IsFetchAsking (f : ℕ) (fetch : Fetch) (more : List ℕ) : Type 0 where
   pub reading : fetch.tracker.reading.f ≡ f
-  pub order : fetch.tracker.reading.order ≡ fetch.order
-  pub clouds : IsOrder f fetch.order
-  pub size : fetch.tracker.reading.size ≤ contents_limit
+  pub clouds : IsOrder f fetch.tracker.reading.order
+  pub size : fetch.tracker.reading.size ≡ fetch.row.length
+  pub row : IsRow fetch.row
   pub few : length fetch.tracker.pieces ≤ f
-  pub left : fetch.tracker.left ≢ Some 0
-  pub told : (past : List Told) × StandsFor fetch.tracker past
+  pub sized : All (λ (p : KeptPiece). p.length ≡ fetch.tracker.reading.size) fetch.tracker.pieces
+  pub first : 1 ≤ turns_left fetch.tracker.left
+  pub last : turns_left fetch.tracker.left ≤ 8
+  pub asked : AreAsked (asked_of fetch.gets) more fetch.tracker.asked
+  pub within : AreOf fetch.tracker.reading.order fetch.tracker.asked
+  pub good : WereAsked fetch.tracker.pieces fetch.tracker.asked
 
--- what holds of an upload: it has one part, and its version is not the first state of a file
-pub record IsUpload (f : ℕ) (upload : Upload) : Type 0 where
+abbrev pub IsFetch : (f : ℕ) → Fetch → Type 0
+IsFetch f fetch = IsFetchAsking f fetch []
+
+-- an upload: it has one part, and at most one turn an input; its version is one that the agent may ask to be completed
+pub record IsUpload (a incarnation f inputs : ℕ) (upload : Upload) : Type 0 where
   pub acks : upload.acks.f ≡ f
   pub part : length upload.acks.parts ≡ 1
-  pub turns : upload.turns ≤ 8
-  pub number : 1 ≤ upload.row.number
+  pub counted : count_of upload.acks ≡ length (acked_of upload.acks)
+  pub turns : upload.turns ≤ inputs
+  pub closes : MayClose a incarnation (row_of upload.row)
 
-abbrev pub IsWork : (f : ℕ) → Work → Type 0
-IsWork f works.Idle = Unit {0}
-IsWork f (works.Step x purpose) = Unit {0}
-IsWork f (works.Fetch fetch) = IsFetch f fetch
-IsWork f (works.Upload upload) = IsUpload f upload
+abbrev pub IsWork : (a incarnation f inputs : ℕ) → Work → Type 0
+IsWork a incarnation f inputs works.Idle = Unit {0}
+IsWork a incarnation f inputs works.Step = Unit {0}
+IsWork a incarnation f inputs (works.Fetch fetch) = IsFetch f fetch
+IsWork a incarnation f inputs (works.Upload upload) = IsUpload a incarnation f inputs upload
 
--- what holds of every agent: its numbers are in their ranges, and each input has it draw at most 32 requests and one session, file
--- and upload
-pub record IsKept (f lease incarnation inputs requests opens files uploads : ℕ) (work : Work) (good bad : ℕ) : Type 0 where
-  pub low : 1 ≤ f
-  pub high : f ≤ 3
-  pub leases : lease ≤ 1000000000
+-- no session is of a version above this
+abbrev pub HaveBases : OpenSessions → Type 0
+HaveBases sessions = All (λ (x : ℕ × Session). x.1.base ≤ 1000000) sessions
+
+-- the tallies are of all clouds by number, and count at most one answer an input
+pub record AreTallies (f inputs : ℕ) (tallies : List RankFacts) : Type 0 where
+  pub clouds : map (λ (x : RankFacts). x.cloud) tallies ≡ below (3 * f + 1)
+  pub few : All (λ (x : RankFacts). (x.good ≤ inputs) × (x.bad ≤ inputs)) tallies
+
+-- whether a call waits for a step
+abbrev pub is_call : Step Row → Bool
+is_call (On_names x) = true
+is_call (On_locks x) = false
+is_call (On_sessions (Open_read names session)) = true
+is_call (On_sessions (Open_write names session)) = true
+is_call (On_sessions (Commit session v)) = false
+
+-- how many of these steps are such, and for how many a call may wait
+abbrev pub calls_in : List (Request Row) → ℕ
+calls_in [] = 0
+calls_in (x ∷ rest) = cond (is_call x.step) 1 0 + calls_in rest
+
+abbrev pub calls_of : Option (Waiting Row) → ℕ
+calls_of None = 0
+calls_of (Some For_step) = 1
+calls_of (Some (For_clouds o)) = 0
+calls_of (Some For_close) = 0
+
+-- a step can be asked: its path is below the root, but for a look; its version is not the first state of a file
+abbrev pub FitsAsking : Asking → Type 0
+FitsAsking (askings.Make path id) = path ≢ []
+FitsAsking (askings.Look path) = Unit {0}
+FitsAsking (askings.OpenRead path session) = path ≢ []
+FitsAsking (askings.OpenWrite path session) = path ≢ []
+FitsAsking (askings.Commit session row) = 1 ≤ row.number
+FitsAsking (askings.Unlock id session) = Unit {0}
+
+-- its numbers are in their ranges, and each input has it draw at most 32 requests and one session, file and upload; the step of its
+-- unanswered call is the only one for which a call waits
+pub record IsKept (header : Header) (no incarnation inputs requests opens files uploads : ℕ) (work : Work) (sessions : OpenSessions) (tallies : List RankFacts) (pending : List Pending) : Type 0 where
+  pub is_header : IsHeader header
+  pub member : no < length header.agents
   pub incarnations : incarnation < 2 ^ 24
   pub counted : inputs ≤ 1000000
   pub drawn : requests ≤ 32 * inputs
   pub opened : opens ≤ inputs
   pub made : files ≤ inputs
   pub begun : uploads ≤ inputs
-  pub working : IsWork f work
-  pub goods : good ≡ 3 * f + 1
-  pub bads : bad ≡ 3 * f + 1
+  pub working : IsWork no incarnation header.f inputs work
+  pub bases : HaveBases sessions
+  pub tallied : AreTallies header.f inputs tallies
+  pub waits : calls_in (map request_of pending) ≤ calls_of (waiting_of work)
+  pub fitting : All (λ (x : Pending). FitsAsking x.asking) pending
+
+abbrev pub HaveRoom : (inputs : ℕ) → List RankFacts → Type 0
+HaveRoom inputs tallies = All (λ (x : RankFacts). (x.good + 1 ≤ inputs) × (x.bad + 1 ≤ inputs)) tallies
+
+abbrev pub HasTurns : (inputs : ℕ) → Option (machine.Upload Row) → Type 0
+HasTurns inputs None = Unit {0}
+HasTurns inputs (Some u) = u.storing.turns + 1 ≤ inputs
+
+-- the turns of its upload may be one more
+abbrev pub MayTurn : (inputs : ℕ) → List (Closed Row) → Type 0
+MayTurn inputs [] = Unit {0}
+MayTurn inputs (x ∷ rest) = HasTurns inputs x.upload
 
 -- an input was counted, for which requests, a session, a file and an upload may still be drawn
-pub record HasRoom (agent : AgentState) : Type 0 where
-  pub requests : agent.requests + 32 ≤ 32 * agent.inputs
-  pub opens : agent.opens + 1 ≤ agent.inputs
-  pub files : agent.files + 1 ≤ agent.inputs
-  pub uploads : agent.uploads + 1 ≤ agent.inputs
+pub record HasRoom (a : AgentState) : Type 0 where
+  pub requests : a.agent.requests + 32 ≤ 32 * a.inputs
+  pub opens : a.agent.opens + 1 ≤ a.inputs
+  pub files : a.agent.files + 1 ≤ a.inputs
+  pub uploads : a.agent.uploads + 1 ≤ a.inputs
+  pub tallies : HaveRoom a.inputs a.agent.tallies
+  pub turns : MayTurn a.inputs a.agent.closed
+  pub closed : OneBegun a.agent.closed
 
--- what a part of an agent's work leaves
-pub record Keeps (old new : AgentState) : Type 0 where
-  pub no : new.no ≡ old.no
-  pub f : new.f ≡ old.f
-  pub inputs : new.inputs ≡ old.inputs
+-- no session is being uploaded, and no call waits for a step
+pub record IsFree (a : AgentState) : Type 0 where
+  pub closed : a.agent.closed ≡ []
+  pub calls : calls_in a.agent.pending ≡ 0
 
-abbrev pub counted_input : AgentState → AgentState
-counted_input agent = record agent { inputs = agent.inputs + 1 }
-
--- an agent with this work
-abbrev pub working : AgentState → Work → AgentState
-working agent work = record agent { work = work }
-
-abbrev pub is_idle : Work → Bool
-is_idle works.Idle = true
-is_idle (works.Step x purpose) = false
-is_idle (works.Fetch fetch) = false
-is_idle (works.Upload upload) = false
+-- no call is unanswered
+pub record IsIdle (a : AgentState) : Type 0 where
+  pub waiting : a.agent.waiting ≡ None
+  pub free : IsFree a
 
 -- what an answer brought can be done: a cloud that is asked is one of all, and contents fit a session
 abbrev pub HasRead : (f : ℕ) → Fetch → ReadStep → Type 0
-HasRead f fetch (read_steps.Ask cloud) = IsFetch f fetch × (cloud < 3 * f + 1)
+HasRead f fetch (read_steps.Ask cloud) = IsFetchAsking f fetch (cloud ∷ []) × (cloud < 3 * f + 1)
 HasRead f fetch read_steps.Wait = IsFetch f fetch
-HasRead f fetch (read_steps.Whole contents) = length contents ≤ contents_limit
+HasRead f fetch (read_steps.Whole contents) = IsRow fetch.row × (length contents ≤ contents_limit)
 
--- what an ended session leaves, as the session that it was
-abbrev pub left_session : Ended → Session
-left_session left = record { file = left.id; base = left.base; writes = left.writes; contents = left.contents }
-
--- no condition of a last name
-abbrev pub nothing_more : ℕ → List ℕ → List Condition
-nothing_more at name = []
-
--- the template of a new file, behind so many names
-abbrev pub file_template : (at : ℕ) → (name : List ℕ) → FileId → Template
-file_template at name id =
-    record {
-      gives = given_text (codes "node") ∷ given id.0 ∷ parent_of at ∷ given_text name ∷ given 1 ∷ given 0 ∷ given 0 ∷ [];
-      life = None;
-    }
-
--- what an agent does on a counted input
-abbrev pub Does : (allows : RankFacts → ℕ → Type 0) → Input → AgentState → AgentState → List Output → Type 0
-Does allows (inputs.Call call) old new given = DoesAs new given (on_call old call)
-Does allows (inputs.Space request reply) old new given =
-    (ranks : List ℕ) × Answers allows (facts_of old request reply.result) ranks × DoesAs new given (on_told old ranks request reply)
-Does allows (inputs.Cloud c request answer) old new given =
-    (past : List Told) → IsTold old.work past → DoesAs new given (on_heard old past c request answer)
-Does allows inputs.Turn old new given = (past : List Told) → IsTold old.work past → DoesAs new given (on_turn old past)
-Does allows inputs.Crash old new given = Unit {0}
-Does allows inputs.Start old new given = Unit {0}
+-- a step that is asked is one that the space takes, and a cloud that is asked is one of the 3f + 1
+abbrev pub FitsOutput : (f : ℕ) → Output → Type 0
+FitsOutput f (outputs.Space request step) = IsStep step
+FitsOutput f (outputs.Cloud c request body) = c < 3 * f + 1
+FitsOutput f (outputs.Line line) = Unit {0}

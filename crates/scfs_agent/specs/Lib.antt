@@ -1,10 +1,8 @@
-pub mod Acting
-pub mod Acts
-pub mod Anchored
 pub mod State
-pub mod Standing
-pub mod Reacting
-pub mod Laws
-pub mod Simulation
-pub mod SimulationOfClouds
+pub mod Views
+pub mod Outputs
+pub mod Asking
 pub mod Keeping
+pub mod Settled
+pub mod Telling
+pub mod Reacting

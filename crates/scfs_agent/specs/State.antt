@@ -1,21 +1,22 @@
 use Rattle.std.specs.Prelude.{ℕ, List}
-use Rattle.scfs_session.specs.Open.{OpenSessions}
-use Rattle.scfs_agent.specs.declared.work.Work.{Work}
+use Rattle.scfs_schedule.specs.declared.types.Header.{Header}
+use Rattle.scfs_machine.specs.Format.{Setup}
+use Rattle.scfs_machine.specs.UnitFormat.{under}
+use Rattle.scfs_machine.specs.Given.{Given}
+use Rattle.scfs_machine.specs.Layers.{Row}
+use Rattle.scfs_machine.specs.Agents.{Agent}
 
--- Contracts see an agent so: its number, what the header says of it, its incarnation, how many inputs it was given, the counts drawn
--- in its incarnation, what its unanswered call waits for, its open sessions, and for each cloud how often it was good and bad to opens.
+-- Contracts see an agent so: the header of its run, its number, how many inputs it was given, and the machine's agent.
 pub record AgentState : Type 0 where
+  pub header : Header
   pub no : ℕ
-  pub f : ℕ
-  pub lease : ℕ
-  pub seed : List ℕ
-  pub incarnation : ℕ
   pub inputs : ℕ
-  pub requests : ℕ
-  pub opens : ℕ
-  pub files : ℕ
-  pub uploads : ℕ
-  pub work : Work
-  pub sessions : OpenSessions
-  pub good : List ℕ
-  pub bad : List ℕ
+  pub agent : Agent Row
+
+-- what its run is under
+abbrev pub setup : AgentState → Setup
+setup a = under a.header
+
+-- what an event at a moment is given, with these answers of the rank rule
+abbrev pub given_now : (now : ℕ) → (ranks : List ℕ) → Given
+given_now now ranks = record { now = now; ranks = ranks }

@@ -1,22 +1,32 @@
-ghost use Rattle.std.specs.Prelude.{◌≡◌, ◌+◌, ◌*◌, ◌<◌, ◌≤◌, [], ℕ, List, not, length, replicate, true, IfOk, OnOk};
+ghost use Rattle.std.specs.Prelude.{◌≡◌, ◌+◌, ◌*◌, ◌^◌, ◌<◌, ◌≤◌, ℕ, [], length, true, is_some, cond, map, IfOk, OnOk};
+ghost use Rattle.scfs_tuples.specs.Steps.{IsStep};
 ghost use Rattle.std.specs.List.{All};
-ghost use Rattle.scfs_model.specs.Agents.{new_agent};
-ghost use Rattle.scfs_model.specs.UnitFormat.{under};
 ghost use Rattle.scfs_policy.specs.Rank.{IsRankRule};
-ghost use Rattle.scfs_quorum_read.specs.Reading.{Told};
+ghost use Rattle.scfs_policy.specs.declared.rank.RankFacts.{RankFacts};
 ghost use Rattle.scfs_schedule.specs.Grammar.{IsHeader};
-ghost use Rattle.scfs_agent.specs.Acting.{DoesAs, IsTold, on_heard, on_turn};
-ghost use Rattle.scfs_agent.specs.Acts.{Acts};
-ghost use Rattle.scfs_agent.specs.Keeping.{Does, HasRoom, Keeps, counted_input, is_idle};
-ghost use Rattle.scfs_agent.specs.Reacting.{FitsInput, FitsOutput, Reacts};
-ghost use Rattle.scfs_agent.specs.Standing.{StandsFor};
+ghost use Rattle.scfs_anchor.specs.StepPlans.{step_on_tuples};
+ghost use Rattle.scfs_machine.specs.Lists.{below};
+ghost use Rattle.scfs_machine.specs.Names.{request_no};
+ghost use Rattle.scfs_machine.specs.Layers.{rows};
+ghost use Rattle.scfs_machine.specs.UnitFormat.{under};
+ghost use Rattle.scfs_machine.specs.Agents.{first_agent, asks_step};
+ghost use Rattle.scfs_machine.specs.Reactions.{hears, turns};
+ghost use Rattle.scfs_agent.specs.State.{setup};
+ghost use Rattle.scfs_agent.specs.Asking.{MayAsk};
+ghost use Rattle.scfs_agent.specs.Views.{step_of};
+ghost use Rattle.scfs_agent.specs.Outputs.{outputs_of};
+ghost use Rattle.scfs_agent.specs.Keeping.{FitsOutput, FitsAsking, HasRoom, AreTallies, calls_in, calls_of, is_call};
+ghost use Rattle.scfs_agent.specs.Reacting.{FitsInput, Reacts, Obeys};
 
-use crate::work::Work;
+use crate::outputs::alone;
+use crate::work::{Asking, Pending, Work};
 use crate::{Input, Output};
+use scfs_anchor::{commit, create, open_read, open_write, stat, unlock};
 use scfs_base::{CloudAnswer, Memory, RequestNo, Sequence};
 use scfs_policy::{RankFacts, RankRule};
 use scfs_schedule::Header;
 use scfs_session::Sessions;
+use scfs_tuples::Step;
 use std::alloc::Global;
 use std::marker::Model;
 use std::mem;
@@ -25,63 +35,67 @@ use std::mem;
 #[derive(Drop)]
 pub struct Agent {
     pub(crate) alloc: Global,
+    pub(crate) header: Header,
     pub(crate) no: u8,
-    pub(crate) f: u8,
-    pub(crate) lease: u64,
-    pub(crate) seed: [u8; 32],
-    pub(crate) incarnation: u32,
     pub(crate) inputs: u64,
+    pub(crate) work: Work,
+    pub(crate) sessions: Sessions,
+    pub(crate) pending: Sequence<Pending>,
+    pub(crate) tallies: Sequence<RankFacts>,
+    pub(crate) incarnation: u32,
     pub(crate) requests: u64,
     pub(crate) opens: u64,
     pub(crate) files: u32,
     pub(crate) uploads: u32,
-    pub(crate) work: Work,
-    pub(crate) sessions: Sessions,
-    pub(crate) good: Sequence<u32>,
-    pub(crate) bad: Sequence<u32>,
 }
 
 impl Model for Agent {
     ghost use Rattle.std.specs.Coded.{codes};
+    ghost use Rattle.std.specs.Prelude.{map};
     ghost use Rattle.scfs_agent.specs.State.{AgentState};
+    ghost use Rattle.scfs_agent.specs.Views.{waiting_of, closed_in, request_of};
+    ghost use Rattle.scfs_agent.specs.Keeping.{IsKept};
     ghost use Rattle.scfs_agent.specs.contracts.work.Work as unfinished;
 
     ghost Value = { AgentState };
 
     ghost coded = { Prim.hlevel (codes, unfinished.the_row.coded) };
 
-    ghost use Rattle.std.specs.Prelude.{length};
-    ghost use Rattle.scfs_agent.specs.Keeping.{IsKept};
-
     ghost view = { λ a. record {
+      header = a.header;
       no = a.no;
-      f = a.f;
-      lease = a.lease;
-      seed = a.seed;
-      incarnation = a.incarnation;
       inputs = a.inputs;
-      requests = a.requests;
-      opens = a.opens;
-      files = a.files;
-      uploads = a.uploads;
-      work = a.work;
-      sessions = a.sessions;
-      good = a.good;
-      bad = a.bad;
+      agent = record {
+        waiting = waiting_of a.work;
+        sessions = a.sessions;
+        closed = closed_in a.work;
+        pending = map request_of a.pending;
+        tallies = a.tallies;
+        incarnation = a.incarnation;
+        requests = a.requests;
+        opens = a.opens;
+        files = a.files;
+        uploads = a.uploads;
+      };
     } };
 
-    ghost invariant = { λ a. IsKept a.f a.lease a.incarnation a.inputs a.requests a.opens a.files a.uploads a.work (length a.good) (length a.bad) };
+    ghost invariant = { λ a. IsKept a.header a.no a.incarnation a.inputs a.requests a.opens a.files a.uploads a.work a.sessions a.tallies
+        a.pending };
 }
 
-/// As many zeros.
-fn zeros(alloc: Global, count: u8) -> Result<Sequence<u32>, Memory>
-    ensures { IfOk result (λ zeros. zeros ≡ replicate count 0) }
+/// The tallies of this many clouds, with no answers counted.
+fn no_tallies(alloc: Global, count: u8) -> Result<Sequence<RankFacts>, Memory>
+    ensures { IfOk result (λ tallies. tallies ≡ map (λ c. record { cloud = c; good = 0; bad = 0 }) (below count)) }
 {
-    let mut zeros = Sequence::new(alloc);
-    for _cloud in 0..count {
-        zeros.push(0)?;
+    let mut tallies = Sequence::new(alloc);
+    for cloud in 0..count {
+        tallies.push(RankFacts {
+            cloud,
+            good: 0,
+            bad: 0,
+        })?;
     }
-    Ok(zeros)
+    Ok(tallies)
 }
 
 impl Agent {
@@ -89,28 +103,23 @@ impl Agent {
     pub fn new(alloc: Global, no: u8, header: &Header) -> Result<Agent, Memory>
         requires header { IsHeader header.now }
         requires no { no < length header.now.agents }
-        ensures stands { IfOk result (λ agent. StandsFor agent (under header.now) new_agent [] []) }
-        ensures no { IfOk result (λ agent. agent.no ≡ no) }
-        ensures f { IfOk result (λ agent. agent.f ≡ header.now.f) }
-        ensures inputs { IfOk result (λ agent. agent.inputs ≡ 0) }
+        ensures { IfOk result (λ agent. agent
+            ≡ record { header = header.now; no = no; inputs = 0; agent = first_agent (under header.now) }) }
     {
-        let (_mode, seed) = header.agents.as_slice()[usize::from(no)];
         Ok(Agent {
             alloc,
+            header: header.copy(alloc)?,
             no,
-            f: header.f,
-            lease: header.lease,
-            seed,
-            incarnation: 0,
             inputs: 0,
+            work: Work::Idle,
+            sessions: Sessions::new(alloc)?,
+            pending: Sequence::new(alloc),
+            tallies: no_tallies(alloc, 3 * header.f + 1)?,
+            incarnation: 0,
             requests: 0,
             opens: 0,
             files: 0,
             uploads: 0,
-            work: Work::Idle,
-            sessions: Sessions::new(alloc)?,
-            good: zeros(alloc, 3 * header.f + 1)?,
-            bad: zeros(alloc, 3 * header.f + 1)?,
         })
     }
 
@@ -123,62 +132,52 @@ impl Agent {
     ) -> Result<Sequence<Output>, Memory>
         requires rank { IsRankRule (R.pre rank.now) }
         requires room { self.old.inputs < 1000000 }
-        requires cloud { FitsInput self.old.f input }
+        requires input { FitsInput self.old input }
         ensures reacts { IfOk result (λ given. Reacts (R.post rank.now) now input self.old self.new given) }
-        ensures asks { IfOk result (λ given. All (FitsOutput self.old.f) given) }
+        ensures asks { IfOk result (λ given. All (FitsOutput self.old.header.f) given) }
+        ensures header { OnOk result (self.new.header ≡ self.old.header) }
         ensures no { OnOk result (self.new.no ≡ self.old.no) }
-        ensures f { OnOk result (self.new.f ≡ self.old.f) }
-        ensures inputs { OnOk result (self.new.inputs ≡ self.old.inputs + 1) }
-    {
-        self.act(&input, rank)
-    }
-
-    /// Counts an input, and does what it asks for.
-    fn act<R: Fn(RankFacts) -> u64>(
-        &mut self,
-        input: &Input,
-        rank: &RankRule<R>,
-    ) -> Result<Sequence<Output>, Memory>
-        requires rank { IsRankRule (R.pre rank.now) }
-        requires room { self.old.inputs < 1000000 }
-        requires cloud { FitsInput self.old.f input.now }
-        ensures acts { IfOk result (λ given. Acts (R.post rank.now) input.now self.old self.new given) }
-        ensures asks { IfOk result (λ given. All (FitsOutput self.old.f) given) }
-        ensures no { OnOk result (self.new.no ≡ self.old.no) }
-        ensures f { OnOk result (self.new.f ≡ self.old.f) }
         ensures inputs { OnOk result (self.new.inputs ≡ self.old.inputs + 1) }
     {
         self.count_input();
-        self.obey(input, rank)
+        self.obey(now, &input, rank)
     }
 
     /// Counts an input.
     fn count_input(&mut self)
         requires { self.old.inputs < 1000000 }
-        ensures after { self.new ≡ counted_input self.old }
+        ensures after { self.new ≡ record self.old { inputs = self.old.inputs + 1 } }
         ensures room { HasRoom self.new }
     {
         self.inputs += 1;
     }
 
+    /// What it draws next fits, and so does what it asks to be completed; it does nothing.
+    fn may_ask(&self)
+        ensures { MayAsk self.now.no self.now.agent }
+    {
+        let _no = self.no;
+    }
+
     /// Does what a counted input asks for.
     fn obey<R: Fn(RankFacts) -> u64>(
         &mut self,
+        now: u64,
         input: &Input,
         rank: &RankRule<R>,
     ) -> Result<Sequence<Output>, Memory>
         requires rank { IsRankRule (R.pre rank.now) }
         requires room { HasRoom self.old }
-        requires cloud { FitsInput self.old.f input.now }
-        ensures does { IfOk result (λ given. Does (R.post rank.now) input.now self.old self.new given) }
-        ensures asks { IfOk result (λ given. All (FitsOutput self.old.f) given) }
-        ensures kept { OnOk result (Keeps self.old self.new) }
+        requires input { FitsInput self.old input.now }
+        ensures reacts { IfOk result (λ given. Obeys (R.post rank.now) now input.now self.old self.new given) }
+        ensures asks { IfOk result (λ given. All (FitsOutput self.old.header.f) given) }
     {
+        self.may_ask();
         match input {
             Input::Call(call) => self.call(call),
             Input::Space(request, reply) => {
                 let ranks = self.ranks(*request, reply, rank)?;
-                self.told(ranks.as_slice(), *request, reply)
+                self.told(now, ranks.as_slice(), *request, reply)
             }
             Input::Cloud(cloud, request, answer) => self.heard(*cloud, *request, answer),
             Input::Turn => self.turn(),
@@ -194,16 +193,18 @@ impl Agent {
         answer: &CloudAnswer,
     ) -> Result<Sequence<Output>, Memory>
         requires room { HasRoom self.old }
-        requires cloud { cloud < 3 * self.old.f + 1 }
-        ensures does { IfOk result (λ given. (past : List Told) → IsTold self.old.work past
-            → DoesAs self.new given (on_heard self.old past cloud request answer.now)) }
-        ensures asks { IfOk result (λ given. All (FitsOutput self.old.f) given) }
-        ensures kept { OnOk result (Keeps self.old self.new) }
+        requires cloud { cloud < 3 * self.old.header.f + 1 }
+        ensures gives { IfOk result (λ given. given ≡ outputs_of self.old
+            (hears (setup self.old) rows self.old.no self.old.agent cloud request answer.now)) }
+        ensures after { OnOk result (self.new ≡ record self.old {
+          agent = (hears (setup self.old) rows self.old.no self.old.agent cloud request answer.now).agent;
+        }) }
+        ensures asks { IfOk result (λ given. All (FitsOutput self.old.header.f) given) }
     {
         match mem::replace(&mut self.work, Work::Idle) {
             Work::Idle => Ok(Sequence::new(self.alloc)),
-            Work::Step(asked, purpose) => {
-                self.work = Work::Step(asked, purpose);
+            Work::Step => {
+                self.work = Work::Step;
                 Ok(Sequence::new(self.alloc))
             }
             Work::Fetch(fetch) => self.heard_fetch(fetch, cloud, request, answer),
@@ -214,15 +215,14 @@ impl Agent {
     /// A turn.
     fn turn(&mut self) -> Result<Sequence<Output>, Memory>
         requires { HasRoom self.old }
-        ensures does { IfOk result (λ given. (past : List Told) → IsTold self.old.work past
-            → DoesAs self.new given (on_turn self.old past)) }
-        ensures asks { IfOk result (λ given. All (FitsOutput self.old.f) given) }
-        ensures kept { OnOk result (Keeps self.old self.new) }
+        ensures gives { IfOk result (λ given. given ≡ outputs_of self.old (turns (setup self.old) rows self.old.no self.old.agent)) }
+        ensures after { OnOk result (self.new ≡ record self.old { agent = (turns (setup self.old) rows self.old.no self.old.agent).agent }) }
+        ensures asks { IfOk result (λ given. All (FitsOutput self.old.header.f) given) }
     {
         match mem::replace(&mut self.work, Work::Idle) {
             Work::Idle => Ok(Sequence::new(self.alloc)),
-            Work::Step(asked, purpose) => {
-                self.work = Work::Step(asked, purpose);
+            Work::Step => {
+                self.work = Work::Step;
                 Ok(Sequence::new(self.alloc))
             }
             Work::Fetch(fetch) => self.turned_fetch(fetch),
@@ -230,9 +230,57 @@ impl Agent {
         }
     }
 
+    /// The number of the next request.
+    fn next_number(&self) -> RequestNo
+        requires { self.now.agent.requests < 2 ^ 63 }
+        ensures { result ≡ request_no self.now.no self.now.agent.incarnation (self.now.agent.requests + 1) }
+    {
+        RequestNo {
+            agent: self.no,
+            incarnation: self.incarnation,
+            number: self.requests + 1,
+        }
+    }
+
+    /// It asks a step of the space.
+    pub(crate) fn ask(&mut self, asking: Asking) -> Result<Sequence<Output>, Memory>
+        requires room { self.old.agent.requests + 1 ≤ 32 * self.old.inputs }
+        requires asking { FitsAsking asking }
+        requires calls { calls_in self.old.agent.pending + cond (is_call (step_of asking)) 1 0 ≤ calls_of self.old.agent.waiting }
+        ensures gives { IfOk result (λ given. given ≡ outputs_of self.old (asks_step self.old.no self.old.agent (step_of asking))) }
+        ensures after { OnOk result (self.new ≡ record self.old { agent = (asks_step self.old.no self.old.agent (step_of asking)).agent }) }
+        ensures asks { IfOk result (λ given. All (FitsOutput self.old.header.f) given) }
+    {
+        let number = self.next_number();
+        let step = self.step(number, &asking)?;
+        self.pending.push(Pending { number, asking })?;
+        self.requests += 1;
+        alone(self.alloc, Output::Space(number, step))
+    }
+
+    /// What is asked under a number, as a step of the space.
+    pub(crate) fn step(&self, number: RequestNo, asking: &Asking) -> Result<Step, Memory>
+        requires { FitsAsking asking.now }
+        ensures step { IfOk result (λ step. step ≡ step_on_tuples self.now.header.lease number (step_of asking.now)) }
+        ensures allowed { IfOk result (λ step. IsStep step) }
+    {
+        let (alloc, agent, incarnation) = (self.alloc, number.agent, number.incarnation);
+        match asking {
+            Asking::Make(path, id) => create(alloc, path, *id),
+            Asking::Look(path) => stat(alloc, path),
+            Asking::OpenRead(path, _session) => open_read(alloc, path, None),
+            Asking::OpenWrite(path, session) => {
+                let lease = self.header.lease;
+                open_write(alloc, path, agent, incarnation, *session, lease)
+            }
+            Asking::Commit(session, row) => commit(alloc, row, *session),
+            Asking::Unlock(id, session) => unlock(alloc, *id, agent, incarnation, *session),
+        }
+    }
+
     /// Whether a call is unanswered.
     pub fn waits(&self) -> bool
-        ensures { result ≡ not (is_idle self.now.work) }
+        ensures { result ≡ is_some self.now.agent.waiting }
     {
         !matches!(self.work, Work::Idle)
     }
@@ -246,7 +294,7 @@ impl Agent {
 
     /// The incarnation: how often the agent was started.
     pub fn incarnation(&self) -> u32
-        ensures { result ≡ self.now.incarnation }
+        ensures { result ≡ self.now.agent.incarnation }
     {
         self.incarnation
     }

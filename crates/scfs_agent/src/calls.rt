@@ -1,21 +1,31 @@
-ghost use Rattle.std.specs.Prelude.{◌≡◌, ◌≢◌, ◌<◌, ◌+◌, ◌*◌, ◌≤◌, ◌^◌, [], IfOk, OnOk};
+ghost use Rattle.std.specs.Prelude.{◌≡◌, ◌≢◌, ◌<◌, ◌+◌, ◌*◌, ◌≤◌, ◌^◌, ℕ, [], ◌∷◌, length, Err, Ok, None, true, false, is_some, IfOk, OnOk, IfSome};
 ghost use Rattle.std.specs.List.{All};
-ghost use Rattle.scfs_tuples.specs.Steps.{IsStep};
-ghost use Rattle.scfs_anchor.specs.Names.{names_of};
-ghost use Rattle.scfs_model.specs.Names.{file_id};
+ghost use Rattle.std.specs.Str.{is_utf8};
 ghost use Rattle.scfs_session.specs.Open.{session_of, read_answer, after_write, after_truncate};
-ghost use Rattle.scfs_schedule.specs.declared.types.Line.TheVariants as lines;
-ghost use Rattle.scfs_agent.specs.Acting.{DoesAs, on_call, called, named, creates, asks_stat, opens, open_step, asks_step, unless_refused, changes, closes, saying, refuses, next_request};
-ghost use Rattle.scfs_agent.specs.Keeping.{HasRoom, Keeps};
-ghost use Rattle.scfs_agent.specs.Reacting.{FitsOutput};
+ghost use Rattle.scfs_schedule.specs.declared.types.Call.TheVariants as calls;
+ghost use Rattle.scfs_machine.specs.Lists.{if_some};
+ghost use Rattle.scfs_machine.specs.Names.{file_id};
+ghost use Rattle.scfs_machine.specs.Paths.{names_of};
+ghost use Rattle.scfs_machine.specs.Steps.{On_sessions};
+ghost use Rattle.scfs_machine.specs.Sayings as says;
+ghost use Rattle.scfs_machine.specs.Agents.{saying};
+ghost use Rattle.scfs_machine.specs.Calls.{call_of, called, makes, looks, opens, refuse, unless_refused, any_names, some_names, path_names, with_session, close};
+ghost use Rattle.scfs_agent.specs.State.{setup};
+ghost use Rattle.scfs_agent.specs.Views.{step_of};
+ghost use Rattle.scfs_agent.specs.Outputs.{outputs_of};
+ghost use Rattle.scfs_agent.specs.Settled.{settled};
+ghost use Rattle.scfs_agent.specs.Telling.{open_step};
+ghost use Rattle.scfs_agent.specs.Keeping.{FitsOutput, FitsAsking, HasRoom, IsIdle};
 
 use crate::outputs::alone;
-use crate::work::{AskedStep, Purpose, Work};
-use crate::{Agent, Output, steps};
-use scfs_anchor::{Path, open_read, open_write};
-use scfs_base::{FileId, Memory, RequestNo, Sequence};
+use crate::work::{Asking, Work};
+use crate::{Agent, Output};
+use scfs_anchor::Path;
+use scfs_base::{FileId, Memory, Sequence};
 use scfs_schedule::{Call, Line, Refusal};
-use scfs_tuples::Step;
+use scfs_session::Sessions;
+use std::alloc::Global;
+use std::mem;
 
 /// The most open sessions of an agent.
 const SESSIONS_LIMIT: u64 = 64;
@@ -24,22 +34,43 @@ impl Agent {
     /// A user's call: Busy while another is unanswered.
     pub(crate) fn call(&mut self, call: &Call) -> Result<Sequence<Output>, Memory>
         requires { HasRoom self.old }
-        ensures does { IfOk result (λ given. DoesAs self.new given (on_call self.old call.now)) }
-        ensures asks { IfOk result (λ given. All (FitsOutput self.old.f) given) }
-        ensures kept { OnOk result (Keeps self.old self.new) }
+        ensures gives { IfOk result (λ given. given ≡ outputs_of self.old
+            (settled (setup self.old) self.old.no (call_of self.old.no (setup self.old) self.old.agent call.now self.old.agent.waiting))) }
+        ensures after { OnOk result (self.new ≡ record self.old {
+          agent = (settled (setup self.old) self.old.no (call_of self.old.no (setup self.old) self.old.agent call.now self.old.agent.waiting)).agent;
+        }) }
+        ensures asks { IfOk result (λ given. All (FitsOutput self.old.header.f) given) }
     {
-        if self.waits() {
+        if !self.is_idle() {
             return self.refuse(Refusal::Busy);
         }
-        self.called(call)
+        match call {
+            Call::Close(session) => self.close(*session),
+            _ => self.called(call),
+        }
     }
 
-    /// A call that comes while none is unanswered.
+    /// Whether no call is unanswered: then nothing is uploaded, and no call waits for a step.
+    fn is_idle(&self) -> bool
+        ensures idle { result ≡ true → IsIdle self.now }
+        ensures busy { result ≡ false → is_some self.now.agent.waiting ≡ true }
+    {
+        match &self.work {
+            Work::Idle => true,
+            Work::Step => false,
+            Work::Fetch(_fetch) => false,
+            Work::Upload(_upload) => false,
+        }
+    }
+
+    /// A call other than a close that comes while none is unanswered.
     fn called(&mut self, call: &Call) -> Result<Sequence<Output>, Memory>
-        requires { HasRoom self.old }
-        ensures does { IfOk result (λ given. DoesAs self.new given (called self.old call.now)) }
-        ensures asks { IfOk result (λ given. All (FitsOutput self.old.f) given) }
-        ensures kept { OnOk result (Keeps self.old self.new) }
+        requires room { HasRoom self.old }
+        requires idle { IsIdle self.old }
+        requires other { (h : ℕ) → call.now ≢ calls.Close h }
+        ensures gives { IfOk result (λ given. given ≡ outputs_of self.old (called self.old.no (setup self.old) self.old.agent call.now)) }
+        ensures after { OnOk result (self.new ≡ record self.old { agent = (called self.old.no (setup self.old) self.old.agent call.now).agent }) }
+        ensures asks { IfOk result (λ given. All (FitsOutput self.old.header.f) given) }
     {
         match call {
             Call::Create(path) => self.create(path.as_slice()),
@@ -51,219 +82,240 @@ impl Agent {
                 self.write(*session, *offset, bytes.as_slice())
             }
             Call::Truncate(session, size) => self.truncate(*session, *size),
-            Call::Close(session) => self.close(*session),
             _ => Ok(Sequence::new(self.alloc)),
         }
     }
 
-    /// It answers with one line.
-    pub(crate) fn say(&self, line: Line) -> Result<Sequence<Output>, Memory>
-        ensures does { IfOk result (λ given. DoesAs self.now given (saying self.now line)) }
-        ensures asks { IfOk result (λ given. All (FitsOutput self.now.f) given) }
-    {
-        alone(self.alloc, Output::Line(line))
-    }
-
     /// It refuses.
     pub(crate) fn refuse(&self, why: Refusal) -> Result<Sequence<Output>, Memory>
-        ensures does { IfOk result (λ given. DoesAs self.now given (refuses self.now why)) }
-        ensures asks { IfOk result (λ given. All (FitsOutput self.now.f) given) }
+        ensures gives { IfOk result (λ given. given ≡ outputs_of self.now (refuse self.now.agent why)) }
+        ensures asks { IfOk result (λ given. All (FitsOutput self.now.header.f) given) }
     {
-        self.say(Line::No(self.no, why))
-    }
-
-    /// The number of the next request.
-    pub(crate) fn next_request(&self) -> RequestNo
-        requires { self.now.requests < 2 ^ 63 }
-        ensures { result ≡ next_request self.now 1 }
-    {
-        RequestNo {
-            agent: self.no,
-            incarnation: self.incarnation,
-            number: self.requests + 1,
-        }
-    }
-
-    /// It asks a step of the space for a call.
-    fn ask(&mut self, step: Step, purpose: Purpose) -> Result<Sequence<Output>, Memory>
-        requires room { self.old.requests + 32 ≤ 32 * self.old.inputs }
-        requires step { IsStep step }
-        ensures does { IfOk result (λ given. DoesAs self.new given (asks_step self.old step purpose)) }
-        ensures asks { IfOk result (λ given. All (FitsOutput self.old.f) given) }
-        ensures kept { OnOk result (Keeps self.old self.new) }
-    {
-        let request = self.next_request();
-        let asked = AskedStep {
-            request,
-            step: step.copy(self.alloc)?,
-        };
-        let given = alone(self.alloc, Output::Space(request, step))?;
-        self.requests += 1;
-        self.work = Work::Step(asked, purpose);
-        Ok(given)
+        alone(self.alloc, Output::Line(Line::No(self.no, why)))
     }
 
     /// A new file.
     fn create(&mut self, path: &[u8]) -> Result<Sequence<Output>, Memory>
-        requires { HasRoom self.old }
-        ensures does { IfOk result (λ given. DoesAs self.new given (named self.old (names_of path.now) (creates self.old))) }
-        ensures asks { IfOk result (λ given. All (FitsOutput self.old.f) given) }
-        ensures kept { OnOk result (Keeps self.old self.new) }
+        requires room { HasRoom self.old }
+        requires idle { IsIdle self.old }
+        ensures gives { IfOk result (λ given. given ≡ outputs_of self.old
+            (unless_refused self.old.agent (path_names (setup self.old) path.now) (makes self.old.no self.old.agent))) }
+        ensures after { OnOk result (self.new ≡ record self.old {
+          agent = (unless_refused self.old.agent (path_names (setup self.old) path.now) (makes self.old.no self.old.agent)).agent;
+        }) }
+        ensures asks { IfOk result (λ given. All (FitsOutput self.old.header.f) given) }
     {
-        match Path::read(self.alloc, path)? {
+        match path_below(self.alloc, path)? {
             None => self.refuse(Refusal::BadName),
-            Some(path) => {
-                if path.is_root() {
-                    return self.refuse(Refusal::BadName);
-                }
-                self.create_at(&path)
-            }
+            Some(path) => self.create_at(path),
         }
     }
 
     /// A new file at a path below the root.
-    fn create_at(&mut self, path: &Path) -> Result<Sequence<Output>, Memory>
+    fn create_at(&mut self, path: Path) -> Result<Sequence<Output>, Memory>
         requires room { HasRoom self.old }
-        requires below { path.now ≢ [] }
-        ensures does { IfOk result (λ given. DoesAs self.new given (creates self.old path.now)) }
-        ensures asks { IfOk result (λ given. All (FitsOutput self.old.f) given) }
-        ensures kept { OnOk result (Keeps self.old self.new) }
+        requires idle { IsIdle self.old }
+        requires below { path ≢ [] }
+        ensures gives { IfOk result (λ given. given ≡ outputs_of self.old (makes self.old.no self.old.agent path)) }
+        ensures after { OnOk result (self.new ≡ record self.old { agent = (makes self.old.no self.old.agent path).agent }) }
+        ensures asks { IfOk result (λ given. All (FitsOutput self.old.header.f) given) }
     {
         let count = self.files + 1;
         let id = file_id(self.no, self.incarnation, count);
-        let step = steps::create(self.alloc, path, id)?;
         self.files = count;
-        self.ask(step, Purpose::Create(id))
+        self.work = Work::Step;
+        self.ask(Asking::Make(path, id))
     }
 
     /// What is known of a node.
     fn stat(&mut self, path: &[u8]) -> Result<Sequence<Output>, Memory>
-        requires { HasRoom self.old }
-        ensures does { IfOk result (λ given. DoesAs self.new given (asks_stat self.old (names_of path.now))) }
-        ensures asks { IfOk result (λ given. All (FitsOutput self.old.f) given) }
-        ensures kept { OnOk result (Keeps self.old self.new) }
+        requires room { HasRoom self.old }
+        requires idle { IsIdle self.old }
+        ensures gives { IfOk result (λ given. given ≡ outputs_of self.old
+            (unless_refused self.old.agent (any_names (setup self.old) path.now) (looks self.old.no self.old.agent))) }
+        ensures after { OnOk result (self.new ≡ record self.old {
+          agent = (unless_refused self.old.agent (any_names (setup self.old) path.now) (looks self.old.no self.old.agent)).agent;
+        }) }
+        ensures asks { IfOk result (λ given. All (FitsOutput self.old.header.f) given) }
     {
-        match Path::read(self.alloc, path)? {
+        match any_path(self.alloc, path)? {
             None => self.refuse(Refusal::BadName),
-            Some(path) => {
-                let step = steps::stat(self.alloc, &path)?;
-                let of_root = path.is_root();
-                self.ask(step, Purpose::Stat { of_root })
-            }
+            Some(path) => self.stat_at(path),
         }
+    }
+
+    /// What is known of the node of a path.
+    fn stat_at(&mut self, path: Path) -> Result<Sequence<Output>, Memory>
+        requires room { HasRoom self.old }
+        requires idle { IsIdle self.old }
+        ensures gives { IfOk result (λ given. given ≡ outputs_of self.old (looks self.old.no self.old.agent path)) }
+        ensures after { OnOk result (self.new ≡ record self.old { agent = (looks self.old.no self.old.agent path).agent }) }
+        ensures asks { IfOk result (λ given. All (FitsOutput self.old.header.f) given) }
+    {
+        self.work = Work::Step;
+        self.ask(Asking::Look(path))
     }
 
     /// An open of a file.
     fn open(&mut self, path: &[u8], writes: bool) -> Result<Sequence<Output>, Memory>
-        requires { HasRoom self.old }
-        ensures does { IfOk result (λ given. DoesAs self.new given (named self.old (names_of path.now) (opens self.old writes))) }
-        ensures asks { IfOk result (λ given. All (FitsOutput self.old.f) given) }
-        ensures kept { OnOk result (Keeps self.old self.new) }
+        requires room { HasRoom self.old }
+        requires idle { IsIdle self.old }
+        ensures gives { IfOk result (λ given. given ≡ outputs_of self.old (unless_refused self.old.agent (path_names (setup self.old) path.now)
+            (λ names. opens self.old.no self.old.agent (open_step writes names)))) }
+        ensures after { OnOk result (self.new ≡ record self.old {
+          agent = (unless_refused self.old.agent (path_names (setup self.old) path.now)
+              (λ names. opens self.old.no self.old.agent (open_step writes names))).agent;
+        }) }
+        ensures asks { IfOk result (λ given. All (FitsOutput self.old.header.f) given) }
     {
-        match Path::read(self.alloc, path)? {
+        match path_below(self.alloc, path)? {
             None => self.refuse(Refusal::BadName),
-            Some(path) => {
-                if path.is_root() {
-                    return self.refuse(Refusal::BadName);
-                }
-                self.open_at(&path, writes)
-            }
+            Some(path) => self.open_at(path, writes),
         }
     }
 
     /// An open of a file at a path below the root.
-    fn open_at(&mut self, path: &Path, writes: bool) -> Result<Sequence<Output>, Memory>
+    fn open_at(&mut self, path: Path, writes: bool) -> Result<Sequence<Output>, Memory>
         requires room { HasRoom self.old }
-        requires below { path.now ≢ [] }
-        ensures does { IfOk result (λ given. DoesAs self.new given (opens self.old writes path.now)) }
-        ensures asks { IfOk result (λ given. All (FitsOutput self.old.f) given) }
-        ensures kept { OnOk result (Keeps self.old self.new) }
+        requires idle { IsIdle self.old }
+        requires below { path ≢ [] }
+        ensures gives { IfOk result (λ given. given ≡ outputs_of self.old (opens self.old.no self.old.agent (open_step writes path))) }
+        ensures after { OnOk result (self.new ≡ record self.old { agent = (opens self.old.no self.old.agent (open_step writes path)).agent }) }
+        ensures asks { IfOk result (λ given. All (FitsOutput self.old.header.f) given) }
     {
         if self.sessions.len() >= SESSIONS_LIMIT {
             return self.refuse(Refusal::TooManyHandles);
         }
         let session = self.opens + 1;
-        let step = self.open_step(path, session, writes)?;
         self.opens = session;
-        self.ask(step, Purpose::Open { session, writes })
-    }
-
-    /// The step of an open by a session.
-    fn open_step(&self, path: &Path, session: u64, writes: bool) -> Result<Step, Memory>
-        requires { path.now ≢ [] }
-        ensures step { IfOk result (λ step. step ≡ open_step self.now path.now session writes) }
-        ensures allowed { IfOk result (λ step. IsStep step) }
-    {
-        if writes {
-            open_write(
-                self.alloc,
-                path,
-                self.no,
-                self.incarnation,
-                session,
-                self.lease,
-            )
-        } else {
-            open_read(self.alloc, path, None)
-        }
+        self.work = Work::Step;
+        self.ask(opening(path, session, writes))
     }
 
     /// Bytes of a session.
     fn read(&self, session: u64, offset: u64, count: u64) -> Result<Sequence<Output>, Memory>
-        ensures does { IfOk result (λ given. DoesAs self.now given
-            (unless_refused self.now (read_answer (session_of self.now.sessions session) offset count)
-            (λ bytes. saying self.now (lines.Data self.now.no session bytes)))) }
-        ensures asks { IfOk result (λ given. All (FitsOutput self.now.f) given) }
+        ensures gives { IfOk result (λ given. given ≡ outputs_of self.now
+            (unless_refused self.now.agent (read_answer (session_of self.now.agent.sessions session) offset count)
+            (λ bytes. saying self.now.agent (says.Reads_out session bytes)))) }
+        ensures after { OnOk result (self.now.agent ≡ (unless_refused self.now.agent
+            (read_answer (session_of self.now.agent.sessions session) offset count)
+            (λ bytes. saying self.now.agent (says.Reads_out session bytes))).agent) }
+        ensures asks { IfOk result (λ given. All (FitsOutput self.now.header.f) given) }
     {
         match self.sessions.read(session, offset, count)? {
             Err(why) => self.refuse(why),
-            Ok(bytes) => self.say(Line::Data(self.no, session, bytes)),
+            Ok(bytes) => alone(
+                self.alloc,
+                Output::Line(Line::Data(self.no, session, bytes)),
+            ),
         }
     }
 
     /// A write to a session.
     fn write(&mut self, session: u64, offset: u64, bytes: &[u8]) -> Result<Sequence<Output>, Memory>
-        ensures does { IfOk result (λ given. DoesAs self.new given
-            (changes self.old session (after_write (session_of self.old.sessions session) offset bytes.now) (lines.OkWrite self.old.no session))) }
-        ensures asks { IfOk result (λ given. All (FitsOutput self.old.f) given) }
-        ensures kept { OnOk result (Keeps self.old self.new) }
+        ensures gives { IfOk result (λ given. given ≡ outputs_of self.old
+            (unless_refused self.old.agent (after_write (session_of self.old.agent.sessions session) offset bytes.now)
+            (λ y. saying (with_session self.old.agent session y) (says.Wrote session (length y.contents))))) }
+        ensures after { OnOk result (self.new ≡ record self.old {
+          agent = (unless_refused self.old.agent (after_write (session_of self.old.agent.sessions session) offset bytes.now)
+              (λ y. saying (with_session self.old.agent session y) (says.Wrote session (length y.contents)))).agent;
+        }) }
+        ensures asks { IfOk result (λ given. All (FitsOutput self.old.header.f) given) }
     {
-        match self.sessions.write(session, offset, bytes)? {
+        let mut sessions = mem::replace(&mut self.sessions, Sessions::new(self.alloc)?);
+        let answer = sessions.write(session, offset, bytes)?;
+        self.sessions = sessions;
+        match answer {
             Err(why) => self.refuse(why),
-            Ok(length) => self.say(Line::OkWrite(self.no, session, u64::from(length))),
+            Ok(length) => {
+                let line = Line::OkWrite(self.no, session, u64::from(length));
+                alone(self.alloc, Output::Line(line))
+            }
         }
     }
 
     /// A truncate of a session.
     fn truncate(&mut self, session: u64, size: u64) -> Result<Sequence<Output>, Memory>
-        ensures does { IfOk result (λ given. DoesAs self.new given
-            (changes self.old session (after_truncate (session_of self.old.sessions session) size) (lines.OkTruncate self.old.no session))) }
-        ensures asks { IfOk result (λ given. All (FitsOutput self.old.f) given) }
-        ensures kept { OnOk result (Keeps self.old self.new) }
+        ensures gives { IfOk result (λ given. given ≡ outputs_of self.old
+            (unless_refused self.old.agent (after_truncate (session_of self.old.agent.sessions session) size)
+            (λ y. saying (with_session self.old.agent session y) (says.Truncated session (length y.contents))))) }
+        ensures after { OnOk result (self.new ≡ record self.old {
+          agent = (unless_refused self.old.agent (after_truncate (session_of self.old.agent.sessions session) size)
+              (λ y. saying (with_session self.old.agent session y) (says.Truncated session (length y.contents)))).agent;
+        }) }
+        ensures asks { IfOk result (λ given. All (FitsOutput self.old.header.f) given) }
     {
-        match self.sessions.truncate(session, size)? {
+        let mut sessions = mem::replace(&mut self.sessions, Sessions::new(self.alloc)?);
+        let answer = sessions.truncate(session, size)?;
+        self.sessions = sessions;
+        match answer {
             Err(why) => self.refuse(why),
-            Ok(length) => self.say(Line::OkTruncate(self.no, session, u64::from(length))),
+            Ok(length) => {
+                let line = Line::OkTruncate(self.no, session, u64::from(length));
+                alone(self.alloc, Output::Line(line))
+            }
         }
     }
 
     /// A close of a session: what a writing one leaves is uploaded.
     fn close(&mut self, session: u64) -> Result<Sequence<Output>, Memory>
-        requires { HasRoom self.old }
-        ensures does { IfOk result (λ given. DoesAs self.new given (closes self.old session (session_of self.old.sessions session))) }
-        ensures asks { IfOk result (λ given. All (FitsOutput self.old.f) given) }
-        ensures kept { OnOk result (Keeps self.old self.new) }
+        requires room { HasRoom self.old }
+        requires idle { IsIdle self.old }
+        ensures gives { IfOk result (λ given. given ≡ outputs_of self.old
+            (settled (setup self.old) self.old.no (close self.old.agent session (session_of self.old.agent.sessions session)))) }
+        ensures after { OnOk result (self.new ≡ record self.old {
+          agent = (settled (setup self.old) self.old.no (close self.old.agent session (session_of self.old.agent.sessions session))).agent;
+        }) }
+        ensures asks { IfOk result (λ given. All (FitsOutput self.old.header.f) given) }
     {
         match self.sessions.take(session) {
             Err(why) => self.refuse(why),
             Ok(left) => {
                 if left.writes {
-                    self.begin(session, &left)
+                    self.begin(session, left)
                 } else {
-                    self.say(Line::OkClose(self.no, session))
+                    let line = Line::OkClose(self.no, session);
+                    alone(self.alloc, Output::Line(line))
                 }
             }
         }
+    }
+}
+
+/// The path that bytes spell; none where they spell none.
+fn any_path(alloc: Global, bytes: &[u8]) -> Result<Option<Path>, Memory>
+    ensures { IfOk result (λ path. path ≡ names_of is_utf8 bytes.now) }
+{
+    Path::read(alloc, bytes)
+}
+
+/// The path below the root that bytes spell; none where they spell none.
+fn path_below(alloc: Global, bytes: &[u8]) -> Result<Option<Path>, Memory>
+    ensures names { IfOk result (λ path. if_some path (Err Refusal.BadName) Ok
+        ≡ some_names (if_some (names_of is_utf8 bytes.now) (Err Refusal.BadName) Ok)) }
+    ensures below { IfOk result (λ path. IfSome path (λ names. names ≢ [])) }
+{
+    match any_path(alloc, bytes)? {
+        None => Ok(None),
+        Some(path) => {
+            if path.is_root() {
+                return Ok(None);
+            }
+            Ok(Some(path))
+        }
+    }
+}
+
+/// What an open asks.
+fn opening(path: Path, session: u64, writes: bool) -> Asking
+    requires { path ≢ [] }
+    ensures step { step_of result ≡ On_sessions (open_step writes path session) }
+    ensures fits { FitsAsking result }
+{
+    if writes {
+        Asking::OpenWrite(path, session)
+    } else {
+        Asking::OpenRead(path, session)
     }
 }
 

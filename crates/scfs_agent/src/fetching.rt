@@ -1,25 +1,27 @@
-ghost use Rattle.std.specs.Prelude.{◌≡◌, ◌<◌, ◌+◌, ◌*◌, ◌≤◌, ℕ, List, length, filter, not, ◌==◌, IfOk, OnOk};
+ghost use Rattle.std.specs.Prelude.{◌≡◌, ◌<◌, ◌+◌, ◌*◌, ◌≤◌, [], length, filter, map, not, IfOk, OnOk};
 ghost use Rattle.std.specs.List.{All};
 ghost use Rattle.scfs_base.specs.Limits.{contents_limit};
-ghost use Rattle.scfs_session.specs.declared.sessions.Session.{Session};
-ghost use Rattle.scfs_quorum_read.specs.Reading.{Told, is_among};
-ghost use Rattle.scfs_quorum_read.specs.Tracking.{StandsFor};
-ghost use Rattle.scfs_agent.specs.Acting.{DoesAs, fetches, opened_as, opened_line, saying, asks_gets, reads, heard_fetch, turned_fetch, fetch_turns, unlocks_if, first_says, counted, one_more};
-ghost use Rattle.scfs_agent.specs.Keeping.{HasRead, IsFetch, Keeps, working};
-ghost use Rattle.scfs_agent.specs.Reacting.{FitsOutput};
-ghost use Rattle.scfs_schedule.specs.declared.types.Line.TheVariants as lines;
-ghost use Rattle.scfs_agent.specs.declared.work.Work.TheVariants as works;
+ghost use Rattle.scfs_policy.specs.declared.rank.RankFacts.{RankFacts};
+ghost use Rattle.scfs_quorum_read.specs.Reading.{is_among};
+ghost use Rattle.scfs_machine.specs.Layers.{rows};
+ghost use Rattle.scfs_machine.specs.Opens.{opened, begins_open, asks_gets, reads, open_hears, open_turns, gives_up, tallied, one_more};
+ghost use Rattle.scfs_agent.specs.State.{setup, given_now};
+ghost use Rattle.scfs_agent.specs.Views.{row_of, opening_of, next_of};
+ghost use Rattle.scfs_agent.specs.Outputs.{outputs_of};
+ghost use Rattle.scfs_agent.specs.Keeping.{FitsOutput, IsFetch, IsFetchAsking, IsFree, IsRow, HasRead, HaveRoom};
 
 use crate::ordering::order_by;
-use crate::outputs::{after_line, alone, append, count_at, get_outputs, is_answer_to, numbered};
-use crate::work::{Fetch, Work};
+use crate::outputs::{after_line, alone, append, get_outputs, is_answer_to, numbered};
+use crate::work::{Asking, Fetch, Work};
 use crate::{Agent, Output};
-use scfs_anchor::{VersionRow, unlock};
+use scfs_anchor::VersionRow;
 use scfs_base::{Bytes, CloudAnswer, FileId, Memory, RequestNo, Sequence};
+use scfs_policy::RankFacts;
 use scfs_quorum_read::{ReadStep, ReadTracker, TurnStep};
 use scfs_schedule::{Line, Refusal, Src};
-use scfs_session::CONTENTS_LIMIT;
+use scfs_session::Sessions;
 use std::alloc::Global;
+use std::mem;
 
 /// The turns after which an open is given up.
 const TURNS: u8 = 8;
@@ -50,51 +52,62 @@ impl Agent {
         contents: Bytes,
         source: Src,
     ) -> Result<Sequence<Output>, Memory>
-        requires idle { self.old.work ≡ works.Idle }
+        requires free { IsFree self.old }
         requires short { length contents ≤ contents_limit }
-        ensures does { IfOk result (λ given. let y : Session = record { file = id; base = base; writes = writes; contents = contents } in
-            DoesAs self.new given (saying (opened_as self.old session y source) (opened_line self.old.no session y source))) }
-        ensures asks { IfOk result (λ given. All (FitsOutput self.old.f) given) }
-        ensures kept { OnOk result (Keeps self.old self.new) }
+        requires base { base ≤ 1000000 }
+        ensures gives { IfOk result (λ given. given ≡ outputs_of self.old
+            (opened self.old.agent session (record { file = id; base = base; writes = writes; contents = contents }) source)) }
+        ensures after { OnOk result (self.new ≡ record self.old {
+          agent = (opened self.old.agent session (record { file = id; base = base; writes = writes; contents = contents }) source).agent;
+        }) }
+        ensures asks { IfOk result (λ given. All (FitsOutput self.old.header.f) given) }
     {
         let size = contents.len() as u64;
-        self.sessions.add(session, id, base, writes, contents)?;
-        self.say(Line::Opened(self.no, session, u64::from(base), source, size))
+        let mut sessions = mem::replace(&mut self.sessions, Sessions::new(self.alloc)?);
+        sessions.add(session, id, base, writes, contents)?;
+        self.sessions = sessions;
+        self.work = Work::Idle;
+        let line = Line::Opened(self.no, session, u64::from(base), source, size);
+        alone(self.alloc, Output::Line(line))
     }
 
-    /// A version is read from the clouds.
+    /// A version is read from the clouds, in the order of these ranks.
     pub(crate) fn fetch(
         &mut self,
+        now: u64,
         ranks: &[u64],
         session: u64,
         writes: bool,
         row: &VersionRow,
     ) -> Result<Sequence<Output>, Memory>
-        requires room { self.old.requests + 32 ≤ 32 * self.old.inputs }
-        requires ranks { length ranks.now ≡ 3 * self.old.f + 1 }
-        ensures does { IfOk result (λ given. DoesAs self.new given (fetches self.old ranks.now session writes row.now)) }
-        ensures asks { IfOk result (λ given. All (FitsOutput self.old.f) given) }
-        ensures kept { OnOk result (Keeps self.old self.new) }
+        requires free { IsFree self.old }
+        requires room { self.old.agent.requests + 32 ≤ 32 * self.old.inputs }
+        requires ranks { length ranks.now ≡ 3 * self.old.header.f + 1 }
+        requires row { IsRow row.now }
+        ensures gives { IfOk result (λ given. given ≡ outputs_of self.old
+            (begins_open (setup self.old) rows self.old.no self.old.agent (given_now now ranks.now) session writes (row_of row.now))) }
+        ensures after { OnOk result (self.new ≡ record self.old {
+          agent = (begins_open (setup self.old) rows self.old.no self.old.agent (given_now now ranks.now) session writes (row_of row.now)).agent;
+        }) }
+        ensures asks { IfOk result (λ given. All (FitsOutput self.old.header.f) given) }
     {
         let order = order_by(self.alloc, ranks)?;
-        let length = row.length.min(CONTENTS_LIMIT as u32);
         let tracker = ReadTracker::new(
             self.alloc,
-            self.f,
+            self.header.f,
             row.root,
-            length,
+            row.length,
             order.as_slice(),
             Some(TURNS),
         )?;
         let first = Sequence::from_vec(Vec::from_slice(
             self.alloc,
-            &order.as_slice()[..usize::from(self.f) + 1],
+            &order.as_slice()[..usize::from(self.header.f) + 1],
         )?);
         let fetch = Fetch {
             session,
             writes,
             row: *row,
-            order,
             gets: Sequence::new(self.alloc),
             tracker,
         };
@@ -103,16 +116,27 @@ impl Agent {
 
     /// Asks further Gets of these clouds.
     fn ask_gets(&mut self, mut fetch: Fetch, clouds: &[u8]) -> Result<Sequence<Output>, Memory>
-        requires room { self.old.requests + 32 ≤ 32 * self.old.inputs }
-        requires fetch { IsFetch self.old.f fetch }
+        requires free { IsFree self.old }
+        requires room { self.old.agent.requests + 32 ≤ 32 * self.old.inputs }
+        requires fetch { IsFetchAsking self.old.header.f fetch clouds.now }
         requires few { length clouds.now ≤ 10 }
-        requires clouds { All (λ c. c < 3 * self.old.f + 1) clouds.now }
-        ensures does { IfOk result (λ given. DoesAs self.new given (asks_gets self.old fetch clouds.now fetch.tracker)) }
-        ensures asks { IfOk result (λ given. All (FitsOutput self.old.f) given) }
-        ensures kept { OnOk result (Keeps self.old self.new) }
+        requires clouds { All (λ c. c < 3 * self.old.header.f + 1) clouds.now }
+        ensures gives { IfOk result (λ given. given ≡ outputs_of self.old
+            (asks_gets (setup self.old) rows self.old.no self.old.agent (opening_of fetch) clouds.now)) }
+        ensures after { OnOk result (self.new ≡ record self.old {
+          agent = (asks_gets (setup self.old) rows self.old.no self.old.agent (opening_of fetch) clouds.now).agent;
+        }) }
+        ensures asks { IfOk result (λ given. All (FitsOutput self.old.header.f) given) }
     {
         let gets = numbered(self.alloc, self.no, self.incarnation, self.requests, clouds)?;
-        let given = get_outputs(self.alloc, self.f, &fetch.row, gets.as_slice())?;
+        let row = fetch.row;
+        let given = get_outputs(
+            self.alloc,
+            self.header.f,
+            row.upload,
+            row.length,
+            gets.as_slice(),
+        )?;
         append(&mut fetch.gets, gets.as_slice())?;
         self.requests += gets.len() as u64;
         self.work = Work::Fetch(fetch);
@@ -127,44 +151,47 @@ impl Agent {
         request: RequestNo,
         answer: &CloudAnswer,
     ) -> Result<Sequence<Output>, Memory>
-        requires idle { self.old.work ≡ works.Idle }
-        requires room { self.old.requests + 32 ≤ 32 * self.old.inputs }
-        requires fetch { IsFetch self.old.f fetch }
-        requires cloud { cloud < 3 * self.old.f + 1 }
-        ensures does { IfOk result (λ given. (past : List Told) → StandsFor fetch.tracker past
-            → DoesAs self.new given (heard_fetch (working self.old (works.Fetch fetch)) fetch past cloud request answer.now)) }
-        ensures asks { IfOk result (λ given. All (FitsOutput self.old.f) given) }
-        ensures kept { OnOk result (Keeps self.old self.new) }
+        requires free { IsFree self.old }
+        requires room { self.old.agent.requests + 32 ≤ 32 * self.old.inputs }
+        requires tallies { HaveRoom self.old.inputs self.old.agent.tallies }
+        requires fetch { IsFetch self.old.header.f fetch }
+        requires cloud { cloud < 3 * self.old.header.f + 1 }
+        ensures gives { IfOk result (λ given. given ≡ outputs_of self.old
+            (open_hears (setup self.old) rows self.old.no self.old.agent (opening_of fetch) cloud request answer.now)) }
+        ensures after { OnOk result (self.new ≡ record self.old {
+          agent = (open_hears (setup self.old) rows self.old.no self.old.agent (opening_of fetch) cloud request answer.now).agent;
+        }) }
+        ensures asks { IfOk result (λ given. All (FitsOutput self.old.header.f) given) }
     {
         if !is_answer_to(fetch.gets.as_slice(), cloud, request) || !fetch.tracker.wants(cloud) {
             self.work = Work::Fetch(fetch);
             return Ok(Sequence::new(self.alloc));
         }
         let step = fetch.tracker.answer(cloud, answer)?;
-        self.count(cloud, fetch.tracker.wants(cloud));
+        self.tally(cloud, !fetch.tracker.wants(cloud))?;
         self.reads(fetch, step)
     }
 
-    /// Counts an answer of a cloud to an open as good or bad.
-    fn count(&mut self, cloud: u8, is_bad: bool)
-        requires cloud { cloud < 3 * self.old.f + 1 }
-        ensures { self.new ≡ counted self.old cloud is_bad }
+    /// A cloud was good or bad to an open.
+    fn tally(&mut self, cloud: u8, is_good: bool) -> Result<(), Memory>
+        requires { HaveRoom self.old.inputs self.old.agent.tallies }
+        ensures { OnOk result (self.new ≡ record self.old { agent = tallied self.old.agent cloud is_good }) }
     {
-        if is_bad {
-            one_more(&mut self.bad, cloud);
-        } else {
-            one_more(&mut self.good, cloud);
-        }
+        self.tallies = one_more_of(self.alloc, self.tallies.as_slice(), cloud, is_good)?;
+        Ok(())
     }
 
     /// What an answer brought.
     fn reads(&mut self, fetch: Fetch, step: ReadStep) -> Result<Sequence<Output>, Memory>
-        requires idle { self.old.work ≡ works.Idle }
-        requires room { self.old.requests + 32 ≤ 32 * self.old.inputs }
-        requires fetch { HasRead self.old.f fetch step }
-        ensures does { IfOk result (λ given. DoesAs self.new given (reads self.old fetch fetch.tracker step)) }
-        ensures asks { IfOk result (λ given. All (FitsOutput self.old.f) given) }
-        ensures kept { OnOk result (Keeps self.old self.new) }
+        requires free { IsFree self.old }
+        requires room { self.old.agent.requests + 32 ≤ 32 * self.old.inputs }
+        requires fetch { HasRead self.old.header.f fetch step }
+        ensures gives { IfOk result (λ given. given ≡ outputs_of self.old
+            (reads (setup self.old) rows self.old.no self.old.agent (opening_of fetch) (next_of step))) }
+        ensures after { OnOk result (self.new ≡ record self.old {
+          agent = (reads (setup self.old) rows self.old.no self.old.agent (opening_of fetch) (next_of step)).agent;
+        }) }
+        ensures asks { IfOk result (λ given. All (FitsOutput self.old.header.f) given) }
     {
         match step {
             ReadStep::Ask(cloud) => self.ask_gets(fetch, &[cloud]),
@@ -185,53 +212,84 @@ impl Agent {
 
     /// A turn of an open.
     pub(crate) fn turned_fetch(&mut self, mut fetch: Fetch) -> Result<Sequence<Output>, Memory>
-        requires idle { self.old.work ≡ works.Idle }
-        requires room { self.old.requests + 32 ≤ 32 * self.old.inputs }
-        requires fetch { IsFetch self.old.f fetch }
-        ensures does { IfOk result (λ given. (past : List Told) → StandsFor fetch.tracker past
-            → DoesAs self.new given (turned_fetch (working self.old (works.Fetch fetch)) fetch past)) }
-        ensures asks { IfOk result (λ given. All (FitsOutput self.old.f) given) }
-        ensures kept { OnOk result (Keeps self.old self.new) }
+        requires free { IsFree self.old }
+        requires room { self.old.agent.requests + 32 ≤ 32 * self.old.inputs }
+        requires fetch { IsFetch self.old.header.f fetch }
+        ensures gives { IfOk result (λ given. given ≡ outputs_of self.old
+            (open_turns (setup self.old) rows self.old.no self.old.agent (opening_of fetch))) }
+        ensures after { OnOk result (self.new ≡ record self.old {
+          agent = (open_turns (setup self.old) rows self.old.no self.old.agent (opening_of fetch)).agent;
+        }) }
+        ensures asks { IfOk result (λ given. All (FitsOutput self.old.header.f) given) }
     {
-        let wanted = wanted(self.alloc, fetch.order.as_slice(), &fetch.tracker)?;
+        let wanted = wanted(self.alloc, fetch.tracker.order(), &fetch.tracker)?;
         match fetch.tracker.turn() {
             TurnStep::Again => self.ask_gets(fetch, wanted.as_slice()),
-            TurnStep::Spent(good) => {
-                let why = Refusal::Unavailable(u64::from(fetch.row.number), good);
-                self.give_up(why, fetch.writes, fetch.row.id, fetch.session)
-            }
+            TurnStep::Spent(good) => self.give_up_open(&fetch, good),
         }
     }
 
-    /// A call is given up: its refusal, and where it has a lock, the unlock, which no call waits for.
-    pub(crate) fn give_up(
-        &mut self,
-        why: Refusal,
-        writes: bool,
-        id: FileId,
-        session: u64,
-    ) -> Result<Sequence<Output>, Memory>
-        requires idle { self.old.work ≡ works.Idle }
-        requires room { self.old.requests + 32 ≤ 32 * self.old.inputs }
-        ensures does { IfOk result (λ given. DoesAs self.new given (first_says (lines.No self.old.no why) (unlocks_if writes self.old id session))) }
-        ensures asks { IfOk result (λ given. All (FitsOutput self.old.f) given) }
-        ensures kept { OnOk result (Keeps self.old self.new) }
+    /// An open is given up: its refusal, and where it has a lock, the unlock, which no call waits for.
+    fn give_up_open(&mut self, fetch: &Fetch, good: u8) -> Result<Sequence<Output>, Memory>
+        requires free { IsFree self.old }
+        requires room { self.old.agent.requests + 32 ≤ 32 * self.old.inputs }
+        ensures gives { IfOk result (λ given. given ≡ outputs_of self.old
+            (gives_up (setup self.old) rows self.old.no self.old.agent (opening_of fetch.now) good)) }
+        ensures after { OnOk result (self.new ≡ record self.old {
+          agent = (gives_up (setup self.old) rows self.old.no self.old.agent (opening_of fetch.now) good).agent;
+        }) }
+        ensures asks { IfOk result (λ given. All (FitsOutput self.old.header.f) given) }
     {
-        if !writes {
-            return self.refuse(why);
+        self.work = Work::Idle;
+        let line = Line::No(
+            self.no,
+            Refusal::Unavailable(u64::from(fetch.row.number), good),
+        );
+        if !fetch.writes {
+            return alone(self.alloc, Output::Line(line));
         }
-        let step = unlock(self.alloc, id, self.no, self.incarnation, session)?;
-        let asked = alone(self.alloc, Output::Space(self.next_request(), step))?;
-        self.requests += 1;
-        after_line(self.alloc, Line::No(self.no, why), asked)
+        let asked = self.ask(Asking::Unlock(fetch.row.id, fetch.session))?;
+        after_line(self.alloc, line, asked)
     }
 }
 
-/// One more of the cloud; the count ends at the greatest number.
-fn one_more(counts: &mut Sequence<u32>, cloud: u8)
-    requires { cloud < length counts.old }
-    ensures { counts.new ≡ one_more counts.old cloud }
+/// One more good or bad answer of the cloud, if these are its facts.
+fn one_more(facts: RankFacts, cloud: u8, is_good: bool) -> RankFacts
+    requires good { facts.good < 4294967295 }
+    requires bad { facts.bad < 4294967295 }
+    ensures { result ≡ one_more cloud is_good facts }
 {
-    let count = count_at(counts.as_slice(), cloud);
-    counts.set(usize::from(cloud), count.saturating_add(1));
+    if facts.cloud != cloud {
+        return facts;
+    }
+    if is_good {
+        RankFacts {
+            good: facts.good + 1,
+            ..facts
+        }
+    } else {
+        RankFacts {
+            bad: facts.bad + 1,
+            ..facts
+        }
+    }
+}
+
+/// The tallies with one more good or bad answer of the cloud.
+fn one_more_of(
+    alloc: Global,
+    tallies: &[RankFacts],
+    cloud: u8,
+    is_good: bool,
+) -> Result<Sequence<RankFacts>, Memory>
+    requires { All (λ (x : RankFacts). (x.good < 4294967295) × (x.bad < 4294967295)) tallies.now }
+    ensures { IfOk result (λ counted. counted ≡ map (one_more cloud is_good) tallies.now) }
+{
+    let mut counted = Sequence::new(alloc);
+    let mut rest = tallies;
+    'each: while let Some((facts, others)) = rest.split_first() {
+        counted.push(one_more(*facts, cloud, is_good))?;
+        rest = others;
+    }
+    Ok(counted)
 }

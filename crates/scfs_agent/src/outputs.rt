@@ -1,13 +1,14 @@
-ghost use Rattle.std.specs.Prelude.{◌≡◌, ◌<◌, ◌≤◌, ◌+◌, ◌*◌, ◌^◌, [], ◌∷◌, ◌++◌, length, slice_get, slice_index_or, IfOk, OnOk};
-ghost use Rattle.scfs_agent.specs.Acting.{numbered_from, get_output, get_outputs, put_output, put_outputs, is_answer_to};
-ghost use Rattle.scfs_model.specs.Lists.{if_some};
-ghost use Rattle.scfs_model.specs.Names.{same_request, upload_name};
+ghost use Rattle.std.specs.Prelude.{◌≡◌, ◌<◌, ◌≤◌, ◌+◌, ◌*◌, ◌^◌, [], ◌∷◌, ◌++◌, length, IfOk, OnOk};
+ghost use Rattle.scfs_machine.specs.Asked as machine;
+ghost use Rattle.scfs_machine.specs.Format.{object_at};
+ghost use Rattle.scfs_machine.specs.Names.{same_request, upload_name};
+ghost use Rattle.scfs_agent.specs.Views.{asked_of};
+ghost use Rattle.scfs_agent.specs.Outputs.{get_body, put_body, sent_to, sent_outputs};
 
 use crate::{Asked, Output};
-use scfs_anchor::VersionRow;
 use scfs_base::{Bytes, CloudRequest, Memory, RequestNo, Sequence, UploadNo};
 use scfs_schedule::Line;
-use scfs_unit::object_length;
+use scfs_unit::{Sealed, object_length};
 use std::alloc::Global;
 
 /// One output as a list.
@@ -33,16 +34,6 @@ pub fn after_line(
     Ok(given)
 }
 
-/// How often the cloud was counted.
-pub fn count_at(counts: &[u32], cloud: u8) -> u32
-    ensures { result ≡ slice_index_or counts.now cloud 0 }
-{
-    match counts.get(usize::from(cloud)) {
-        Some(count) => *count,
-        None => 0,
-    }
-}
-
 /// Whether two requests have one number.
 pub fn same_request(one: RequestNo, other: RequestNo) -> bool
     ensures { result ≡ same_request one other }
@@ -52,7 +43,7 @@ pub fn same_request(one: RequestNo, other: RequestNo) -> bool
 
 /// Whether an answer of a cloud is to one of these requests, made of that cloud.
 pub fn is_answer_to(asked: &[Asked], cloud: u8, request: RequestNo) -> bool
-    ensures { result ≡ is_answer_to asked.now cloud request }
+    ensures { result ≡ machine.is_answer_to (asked_of asked.now) cloud request }
 {
     let mut rest = asked;
     'each: while let Some((first, others)) = rest.split_first() {
@@ -73,7 +64,8 @@ pub fn numbered(
     clouds: &[u8],
 ) -> Result<Sequence<Asked>, Memory>
     requires { drawn + length clouds.now < 2 ^ 64 }
-    ensures { IfOk result (λ asked. asked ≡ numbered_from agent incarnation drawn clouds.now) }
+    ensures numbers { IfOk result (λ asked. asked_of asked ≡ machine.asked_of agent incarnation drawn clouds.now) }
+    ensures count { IfOk result (λ asked. length asked ≡ length clouds.now) }
 {
     let mut asked = Sequence::new(alloc);
     let mut last = drawn;
@@ -118,78 +110,58 @@ fn object_name(alloc: Global, upload: UploadNo) -> Result<Bytes, Memory>
     Bytes::from_slice(alloc, &scfs_base::upload_name(&low, 0))
 }
 
-/// The Get of a version that is asked of a cloud.
-fn get_output(alloc: Global, f: u8, row: &VersionRow, asked: Asked) -> Result<Output, Memory>
-    requires low { 1 ≤ f }
-    requires high { f ≤ 3 }
-    ensures { IfOk result (λ output. output ≡ get_output f row.now asked) }
-{
-    let body = CloudRequest::Get {
-        name: object_name(alloc, row.upload)?,
-        limit: object_length(f, row.length) + 1,
-    };
-    Ok(Output::Cloud(asked.cloud, asked.request, body))
-}
-
-/// The Gets of a version.
+/// The Gets of an upload's objects, with contents of this length.
 pub fn get_outputs(
     alloc: Global,
     f: u8,
-    row: &VersionRow,
+    upload: UploadNo,
+    length: u32,
     asked: &[Asked],
 ) -> Result<Sequence<Output>, Memory>
     requires low { 1 ≤ f }
     requires high { f ≤ 3 }
-    ensures { IfOk result (λ given. given ≡ get_outputs f row.now asked.now) }
+    ensures { IfOk result (λ given. given ≡ sent_outputs (sent_to (get_body f upload length) (asked_of asked.now))) }
 {
     let mut given = Sequence::new(alloc);
     let mut rest = asked;
     'each: while let Some((first, others)) = rest.split_first() {
-        given.push(get_output(alloc, f, row, *first)?)?;
+        let body = CloudRequest::Get {
+            name: object_name(alloc, upload)?,
+            limit: object_length(f, length) + 1,
+        };
+        given.push(Output::Cloud(first.cloud, first.request, body))?;
         rest = others;
     }
     Ok(given)
 }
 
 /// The object of a cloud, no bytes where there is none.
-fn object_at(alloc: Global, objects: &[Bytes], cloud: u8) -> Result<Bytes, Memory>
-    ensures { IfOk result (λ bytes. bytes ≡ if_some (slice_get objects.now cloud) [] (λ bytes. bytes)) }
+fn object_at(alloc: Global, unit: &Sealed, cloud: u8) -> Result<Bytes, Memory>
+    ensures { IfOk result (λ bytes. bytes ≡ object_at unit.now cloud) }
 {
-    match objects.get(usize::from(cloud)) {
+    match unit.objects.get(usize::from(cloud)) {
         Some(object) => object.copy(alloc),
         None => Ok(Bytes::new(alloc)),
     }
 }
 
-/// The Put of an upload that is asked of a cloud.
-fn put_output(
-    alloc: Global,
-    row: &VersionRow,
-    objects: &[Bytes],
-    asked: Asked,
-) -> Result<Output, Memory>
-    ensures { IfOk result (λ output. output ≡ put_output row.now objects.now asked) }
-{
-    let body = CloudRequest::Put {
-        name: object_name(alloc, row.upload)?,
-        body: object_at(alloc, objects, asked.cloud)?,
-    };
-    Ok(Output::Cloud(asked.cloud, asked.request, body))
-}
-
-/// The Puts of an upload.
+/// The Puts of an upload's objects.
 pub fn put_outputs(
     alloc: Global,
-    row: &VersionRow,
-    objects: &[Bytes],
+    upload: UploadNo,
+    unit: &Sealed,
     asked: &[Asked],
 ) -> Result<Sequence<Output>, Memory>
-    ensures { IfOk result (λ given. given ≡ put_outputs row.now objects.now asked.now) }
+    ensures { IfOk result (λ given. given ≡ sent_outputs (sent_to (put_body upload unit.now) (asked_of asked.now))) }
 {
     let mut given = Sequence::new(alloc);
     let mut rest = asked;
     'each: while let Some((first, others)) = rest.split_first() {
-        given.push(put_output(alloc, row, objects, *first)?)?;
+        let body = CloudRequest::Put {
+            name: object_name(alloc, upload)?,
+            body: object_at(alloc, unit, first.cloud)?,
+        };
+        given.push(Output::Cloud(first.cloud, first.request, body))?;
         rest = others;
     }
     Ok(given)

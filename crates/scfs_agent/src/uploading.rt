@@ -1,36 +1,41 @@
-ghost use Rattle.std.specs.Prelude.{◌≡◌, ◌<◌, ◌+◌, ◌-◌, ◌*◌, ◌≤◌, ◌^◌, List, length, filter, not, IfOk, OnOk};
+ghost use Rattle.std.specs.Prelude.{◌≡◌, ◌<◌, ◌+◌, ◌*◌, ◌≤◌, ◌^◌, [], length, filter, not, ◌&&◌, Some, None, IfOk, OnOk};
 ghost use Rattle.std.specs.List.{All};
 ghost use Rattle.std.specs.FinSet as set;
 ghost use Rattle.scfs_base.specs.Limits.{contents_limit};
-ghost use Rattle.scfs_session.specs.Open.{OpenSessions, ended};
-ghost use Rattle.scfs_quorum_write.specs.Acks.{clouds_of};
-ghost use Rattle.scfs_model.specs.Lists.{below};
-ghost use Rattle.scfs_model.specs.Names.{upload_no};
-ghost use Rattle.scfs_model.specs.UnitFormat.{draw_for};
-ghost use Rattle.scfs_unit.specs.Unit as unit;
-ghost use Rattle.scfs_agent.specs.Acting.{DoesAs, acknowledges, begins, commits, heard_upload, turned_upload, asks_puts, row_from};
-ghost use Rattle.scfs_agent.specs.Keeping.{HasRoom, IsUpload, Keeps, left_session, working};
-ghost use Rattle.scfs_agent.specs.Reacting.{FitsOutput};
-ghost use Rattle.scfs_agent.specs.declared.work.Work.TheVariants as works;
+ghost use Rattle.scfs_quorum_write.specs.Acks.{clouds_of, count_of};
+ghost use Rattle.scfs_machine.specs.Asked as machine;
+ghost use Rattle.scfs_machine.specs.Lists.{below};
+ghost use Rattle.scfs_machine.specs.Names.{upload_no};
+ghost use Rattle.scfs_machine.specs.Format.{sealed};
+ghost use Rattle.scfs_machine.specs.Layers.{rows};
+ghost use Rattle.scfs_machine.specs.Storing.{is_ack};
+ghost use Rattle.scfs_machine.specs.Agents.{For_close};
+ghost use Rattle.scfs_machine.specs.Closes.{begins, asks_puts, upload_hears, upload_turns, falls_short};
+ghost use Rattle.scfs_anchor.specs.Holding as holding;
+ghost use Rattle.scfs_agent.specs.State.{setup};
+ghost use Rattle.scfs_agent.specs.Views.{asked_of, row_of, left_session, upload_of, closed_of};
+ghost use Rattle.scfs_agent.specs.Outputs.{outputs_of};
+ghost use Rattle.scfs_agent.specs.Asking.{MayClose};
+ghost use Rattle.scfs_agent.specs.Keeping.{FitsOutput, IsFree, IsUpload};
 
-use crate::outputs::{alone, append, is_answer_to, numbered, put_outputs};
-use crate::work::{Asked, AskedStep, Upload, Work};
+use crate::outputs::{after_line, alone, append, is_answer_to, numbered, put_outputs};
+use crate::work::{Asked, Asking, Upload, Work};
 use crate::{Agent, Output};
-use scfs_anchor::{VersionRow, commit};
-use scfs_base::{CloudAnswer, Memory, RequestNo, Sequence, UploadNo};
+use scfs_anchor::VersionRow;
+use scfs_base::{CloudAnswer, Digest, Memory, RequestNo, Sequence, UploadNo};
 use scfs_digest::draw_seed;
 use scfs_quorum_write::{Progress, PutTracker};
-use scfs_schedule::Refusal;
+use scfs_schedule::{Line, Refusal};
 use scfs_session::Ended;
 use scfs_stream::draw;
 use scfs_unit::{Sealed, seal};
 use std::alloc::Global;
 
 /// The turns after which an upload is given up.
-const TURNS: u8 = 8;
+const TURNS: u32 = 8;
 
 /// The numbers of all clouds.
-#[tactic(auto, using(crate::proofs::CodeOutputs::below_more))]
+#[tactic(auto, using(crate::proofs::CloudLists::below_more))]
 fn all_clouds(alloc: Global, f: u8) -> Result<Sequence<u8>, Memory>
     requires { f ≤ 3 }
     ensures { IfOk result (λ clouds. clouds ≡ below (3 * f + 1)) }
@@ -60,7 +65,7 @@ fn missing(alloc: Global, f: u8, acks: &PutTracker) -> Result<Sequence<u8>, Memo
 
 /// Whether an answer of a cloud acknowledges one of these Puts.
 fn acknowledges(puts: &[Asked], cloud: u8, request: RequestNo, answer: &CloudAnswer) -> bool
-    ensures { result ≡ acknowledges puts.now cloud request answer.now }
+    ensures { result ≡ is_ack answer.now && machine.is_answer_to (asked_of puts.now) cloud request }
 {
     match answer {
         CloudAnswer::Ack => is_answer_to(puts, cloud, request),
@@ -69,48 +74,65 @@ fn acknowledges(puts: &[Asked], cloud: u8, request: RequestNo, answer: &CloudAns
     }
 }
 
+/// A digest, of 32 bytes.
+fn whole(digest: &Digest) -> Digest
+    ensures same { result ≡ digest.now }
+    ensures length { length result.0 ≡ 32 }
+{
+    let bytes = digest.0;
+    let _count = bytes.len();
+    Digest(bytes)
+}
+
 impl Agent {
     /// The upload of a closed session begins: its number is drawn, it is sealed, and its Puts are asked of all clouds.
-    pub(crate) fn begin(&mut self, session: u64, left: &Ended) -> Result<Sequence<Output>, Memory>
-        requires room { HasRoom self.old }
-        requires short { length left.now.contents ≤ contents_limit }
-        ensures does { IfOk result (λ given. (sessions : OpenSessions) → self.old.sessions ≡ ended sessions session →
-            DoesAs self.new given (begins (record self.old { sessions = sessions }) session (left_session left.now))) }
-        ensures asks { IfOk result (λ given. All (FitsOutput self.old.f) given) }
-        ensures kept { OnOk result (Keeps self.old self.new) }
+    pub(crate) fn begin(&mut self, session: u64, left: Ended) -> Result<Sequence<Output>, Memory>
+        requires free { IsFree self.old }
+        requires room { self.old.agent.requests + 32 ≤ 32 * self.old.inputs }
+        requires count { self.old.agent.uploads + 1 ≤ self.old.inputs }
+        requires short { length left.contents ≤ contents_limit }
+        requires base { left.base ≤ 1000000 }
+        ensures gives { IfOk result (λ given. given ≡ outputs_of self.old
+            (begins (setup self.old) rows self.old.no (record self.old.agent { waiting = Some For_close })
+            (record { number = session; session = left_session left; upload = None }))) }
+        ensures after { OnOk result (self.new ≡ record self.old {
+          agent = (begins (setup self.old) rows self.old.no (record self.old.agent { waiting = Some For_close })
+              (record { number = session; session = left_session left; upload = None })).agent;
+        }) }
+        ensures asks { IfOk result (λ given. All (FitsOutput self.old.header.f) given) }
     {
         let count = self.uploads + 1;
-        let it = self.sealed(count, left)?;
-        let row = self.row_from(count, left, &it);
+        let unit = self.sealed(count, &left)?;
+        let row = self.row_from(count, &left, &unit);
         let upload = Upload {
             session,
+            left,
             row,
-            objects: it.objects,
-            acks: PutTracker::new(self.alloc, self.f, 1)?,
-            turns: 0,
+            unit,
             puts: Sequence::new(self.alloc),
-            commit: None,
+            acks: PutTracker::new(self.alloc, self.header.f, 1)?,
+            turns: 0,
         };
         self.uploads = count;
-        let clouds = all_clouds(self.alloc, self.f)?;
+        let clouds = all_clouds(self.alloc, self.header.f)?;
         self.ask_puts(upload, clouds.as_slice())
     }
 
     /// What a closed session leaves, sealed under what is drawn for this upload.
     fn sealed(&self, count: u32, left: &Ended) -> Result<Sealed, Memory>
         requires { length left.now.contents ≤ contents_limit }
-        ensures { IfOk result (λ it. it ≡ unit.sealed self.now.f
-            (draw_for self.now.f self.now.seed (upload_no self.now.no self.now.incarnation count)) left.now.contents) }
+        ensures { IfOk result (λ unit. unit ≡ sealed (setup self.now) (upload_no self.now.no self.now.agent.incarnation count) left.now.contents) }
     {
-        let seed = draw_seed(&self.seed, &self.upload_no(count));
-        let drawn = draw(&seed, self.f);
-        seal(self.alloc, self.f, &drawn, left.contents.as_slice())
+        let (_mode, seed) = self.header.agents.as_slice()[usize::from(self.no)];
+        let seed = draw_seed(&seed, &self.upload_no(count));
+        let drawn = draw(&seed, self.header.f);
+        seal(self.alloc, self.header.f, &drawn, left.contents.as_slice())
     }
 
     /// The number of the upload of this count.
     fn upload_no(&self, count: u32) -> UploadNo
-        ensures number { result ≡ upload_no self.now.no self.now.incarnation count }
-        ensures incarnation { result.incarnation < 2 ^ 24 }
+        ensures number { result ≡ upload_no self.now.no self.now.agent.incarnation count }
+        ensures fits { holding.IsUpload result }
     {
         UploadNo {
             agent: self.no,
@@ -120,39 +142,41 @@ impl Agent {
     }
 
     /// The row of the version that a closed session will be.
-    fn row_from(&self, count: u32, left: &Ended, it: &Sealed) -> VersionRow
-        requires { length left.now.contents ≤ contents_limit }
-        ensures row { result ≡ row_from (left_session left.now) count self.now it.now }
-        ensures number { 1 ≤ result.number }
+    fn row_from(&self, count: u32, left: &Ended, unit: &Sealed) -> VersionRow
+        requires short { length left.now.contents ≤ contents_limit }
+        requires base { left.now.base ≤ 1000000 }
+        ensures row { row_of result ≡ rows.closed (left_session left.now) (upload_no self.now.no self.now.agent.incarnation count) unit.now }
+        ensures closes { MayClose self.now.no self.now.agent.incarnation (row_of result) }
     {
+        let (root, content) = (whole(&unit.root), whole(&unit.content));
+        let upload = self.upload_no(count);
         VersionRow {
             id: left.id,
-            number: left.base.saturating_add(1),
-            root: it.root,
-            content: it.content,
+            number: left.base + 1,
+            root,
+            content,
             length: left.contents.len() as u32,
-            upload: self.upload_no(count),
+            upload,
             time: 0,
         }
     }
 
     /// Asks Puts of these clouds.
     fn ask_puts(&mut self, mut upload: Upload, clouds: &[u8]) -> Result<Sequence<Output>, Memory>
-        requires room { self.old.requests + 32 ≤ 32 * self.old.inputs }
-        requires upload { IsUpload self.old.f upload }
+        requires free { IsFree self.old }
+        requires room { self.old.agent.requests + 32 ≤ 32 * self.old.inputs }
+        requires upload { IsUpload self.old.no self.old.agent.incarnation self.old.header.f self.old.inputs upload }
         requires few { length clouds.now ≤ 10 }
-        requires clouds { All (λ c. c < 3 * self.old.f + 1) clouds.now }
-        ensures does { IfOk result (λ given. DoesAs self.new given (asks_puts self.old upload clouds.now)) }
-        ensures asks { IfOk result (λ given. All (FitsOutput self.old.f) given) }
-        ensures kept { OnOk result (Keeps self.old self.new) }
+        requires clouds { All (λ c. c < 3 * self.old.header.f + 1) clouds.now }
+        ensures gives { IfOk result (λ given. given ≡ outputs_of self.old
+            (asks_puts (setup self.old) self.old.no (record self.old.agent { waiting = Some For_close }) (closed_of upload) (upload_of upload) clouds.now)) }
+        ensures after { OnOk result (self.new ≡ record self.old {
+          agent = (asks_puts (setup self.old) self.old.no (record self.old.agent { waiting = Some For_close }) (closed_of upload) (upload_of upload) clouds.now).agent;
+        }) }
+        ensures asks { IfOk result (λ given. All (FitsOutput self.old.header.f) given) }
     {
         let puts = numbered(self.alloc, self.no, self.incarnation, self.requests, clouds)?;
-        let given = put_outputs(
-            self.alloc,
-            &upload.row,
-            upload.objects.as_slice(),
-            puts.as_slice(),
-        )?;
+        let given = put_outputs(self.alloc, upload.row.upload, &upload.unit, puts.as_slice())?;
         append(&mut upload.puts, puts.as_slice())?;
         self.requests += puts.len() as u64;
         self.work = Work::Upload(upload);
@@ -167,21 +191,27 @@ impl Agent {
         request: RequestNo,
         answer: &CloudAnswer,
     ) -> Result<Sequence<Output>, Memory>
-        requires idle { self.old.work ≡ works.Idle }
-        requires room { self.old.requests + 32 ≤ 32 * self.old.inputs }
-        requires upload { IsUpload self.old.f upload }
-        requires cloud { cloud < 3 * self.old.f + 1 }
-        ensures does { IfOk result (λ given. DoesAs self.new given
-            (heard_upload (working self.old (works.Upload upload)) upload cloud request answer.now)) }
-        ensures asks { IfOk result (λ given. All (FitsOutput self.old.f) given) }
-        ensures kept { OnOk result (Keeps self.old self.new) }
+        requires free { IsFree self.old }
+        requires room { self.old.agent.requests + 32 ≤ 32 * self.old.inputs }
+        requires upload { IsUpload self.old.no self.old.agent.incarnation self.old.header.f self.old.inputs upload }
+        requires cloud { cloud < 3 * self.old.header.f + 1 }
+        ensures gives { IfOk result (λ given. given ≡ outputs_of self.old
+            (upload_hears (setup self.old) self.old.no (record self.old.agent { waiting = Some For_close }) (closed_of upload) (upload_of upload) cloud request answer.now)) }
+        ensures after { OnOk result (self.new ≡ record self.old {
+          agent = (upload_hears (setup self.old) self.old.no (record self.old.agent { waiting = Some For_close }) (closed_of upload) (upload_of upload) cloud request answer.now).agent;
+        }) }
+        ensures asks { IfOk result (λ given. All (FitsOutput self.old.header.f) given) }
     {
         if !acknowledges(upload.puts.as_slice(), cloud, request, answer) {
             self.work = Work::Upload(upload);
             return Ok(Sequence::new(self.alloc));
         }
         match upload.acks.acked(cloud, 0) {
-            Progress::Done => self.commit(upload),
+            Progress::Done => {
+                let asking = Asking::Commit(upload.session, upload.row);
+                self.work = Work::Upload(upload);
+                self.ask(asking)
+            }
             Progress::Already | Progress::Counted(_) => {
                 self.work = Work::Upload(upload);
                 Ok(Sequence::new(self.alloc))
@@ -189,46 +219,46 @@ impl Agent {
         }
     }
 
-    /// Asks the commit of an upload.
-    fn commit(&mut self, mut upload: Upload) -> Result<Sequence<Output>, Memory>
-        requires room { self.old.requests + 32 ≤ 32 * self.old.inputs }
-        requires upload { IsUpload self.old.f upload }
-        ensures does { IfOk result (λ given. DoesAs self.new given (commits self.old upload)) }
-        ensures asks { IfOk result (λ given. All (FitsOutput self.old.f) given) }
-        ensures kept { OnOk result (Keeps self.old self.new) }
-    {
-        let step = commit(self.alloc, &upload.row, upload.session)?;
-        let request = self.next_request();
-        upload.commit = Some(AskedStep {
-            request,
-            step: step.copy(self.alloc)?,
-        });
-        let given = alone(self.alloc, Output::Space(request, step))?;
-        self.requests += 1;
-        self.work = Work::Upload(upload);
-        Ok(given)
-    }
-
     /// A turn of an upload: nothing once enough clouds acknowledged; else the eighth is short, and one before it asks again.
     pub(crate) fn turned_upload(&mut self, mut upload: Upload) -> Result<Sequence<Output>, Memory>
-        requires idle { self.old.work ≡ works.Idle }
-        requires room { self.old.requests + 32 ≤ 32 * self.old.inputs }
-        requires upload { IsUpload self.old.f upload }
-        ensures does { IfOk result (λ given. DoesAs self.new given (turned_upload (working self.old (works.Upload upload)) upload)) }
-        ensures asks { IfOk result (λ given. All (FitsOutput self.old.f) given) }
-        ensures kept { OnOk result (Keeps self.old self.new) }
+        requires free { IsFree self.old }
+        requires room { self.old.agent.requests + 32 ≤ 32 * self.old.inputs }
+        requires upload { IsUpload self.old.no self.old.agent.incarnation self.old.header.f self.old.inputs upload }
+        requires turns { upload.turns + 1 ≤ self.old.inputs }
+        ensures gives { IfOk result (λ given. given ≡ outputs_of self.old
+            (upload_turns (setup self.old) self.old.no (record self.old.agent { waiting = Some For_close }) (closed_of upload) (upload_of upload))) }
+        ensures after { OnOk result (self.new ≡ record self.old {
+          agent = (upload_turns (setup self.old) self.old.no (record self.old.agent { waiting = Some For_close }) (closed_of upload) (upload_of upload)).agent;
+        }) }
+        ensures asks { IfOk result (λ given. All (FitsOutput self.old.header.f) given) }
     {
-        let turns = upload.turns + 1;
+        let most = 2 * self.header.f;
+        upload.turns += 1;
         let acked = upload.acks.count();
-        upload.turns = turns.min(TURNS);
-        if acked > 2 * self.f {
+        if acked > most {
             self.work = Work::Upload(upload);
             return Ok(Sequence::new(self.alloc));
         }
-        if turns == TURNS {
-            return self.give_up(Refusal::Short(acked), true, upload.row.id, upload.session);
+        if upload.turns == TURNS {
+            return self.fall_short(&upload, acked);
         }
-        let clouds = missing(self.alloc, self.f, &upload.acks)?;
+        let clouds = missing(self.alloc, self.header.f, &upload.acks)?;
         self.ask_puts(upload, clouds.as_slice())
+    }
+
+    /// An upload is given up: its refusal, and the unlock.
+    fn fall_short(&mut self, upload: &Upload, acked: u8) -> Result<Sequence<Output>, Memory>
+        requires free { IsFree self.old }
+        requires room { self.old.agent.requests + 32 ≤ 32 * self.old.inputs }
+        ensures gives { IfOk result (λ given. given ≡ outputs_of self.old
+            (falls_short (setup self.old) self.old.no (record self.old.agent { waiting = Some For_close }) (closed_of upload.now) acked)) }
+        ensures after { OnOk result (self.new ≡ record self.old {
+          agent = (falls_short (setup self.old) self.old.no (record self.old.agent { waiting = Some For_close }) (closed_of upload.now) acked).agent;
+        }) }
+        ensures asks { IfOk result (λ given. All (FitsOutput self.old.header.f) given) }
+    {
+        self.work = Work::Idle;
+        let asked = self.ask(Asking::Unlock(upload.left.id, upload.session))?;
+        after_line(self.alloc, Line::No(self.no, Refusal::Short(acked)), asked)
     }
 }

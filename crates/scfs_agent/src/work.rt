@@ -1,26 +1,9 @@
-use scfs_anchor::VersionRow;
-use scfs_base::{Bytes, FileId, RequestNo, Sequence};
+use scfs_anchor::{Path, VersionRow};
+use scfs_base::{FileId, RequestNo, Sequence};
 use scfs_quorum_read::ReadTracker;
 use scfs_quorum_write::PutTracker;
-use scfs_tuples::Step;
-
-/// A step that was asked of the space, under its number.
-#[derive(Debug, Drop)]
-pub struct AskedStep {
-    pub request: RequestNo,
-    pub step: Step,
-}
-
-/// What the step of an unanswered call was asked for.
-#[derive(Clone, Copy, Debug, PartialEq, Eq)]
-pub enum Purpose {
-    /// A new file of this id.
-    Create(FileId),
-    /// What is known of a node, or of the root.
-    Stat { of_root: bool },
-    /// A session of this number.
-    Open { session: u64, writes: bool },
-}
+use scfs_session::Ended;
+use scfs_unit::Sealed;
 
 /// A request that was made of a cloud.
 #[derive(Clone, Copy, Debug, PartialEq, Eq)]
@@ -29,36 +12,58 @@ pub struct Asked {
     pub cloud: u8,
 }
 
-/// An open that reads the clouds: the session that it will be, the row of the version that it saw, the order in which clouds are
-/// asked, the Gets so far, and what the answers to them came to.
+/// What an agent asks of the space.
+#[derive(Drop)]
+pub enum Asking {
+    /// A new file of this id.
+    Make(Path, FileId),
+    /// What is known of a node, or of the root.
+    Look(Path),
+    /// An open for a session of this number.
+    OpenRead(Path, u64),
+    OpenWrite(Path, u64),
+    /// The close of a session of this number, as this version.
+    Commit(u64, VersionRow),
+    /// The lock of a session of this number on a file is given back.
+    Unlock(FileId, u64),
+}
+
+/// A step that was asked of the space and whose reply was not told yet.
+#[derive(Drop)]
+pub struct Pending {
+    pub number: RequestNo,
+    pub asking: Asking,
+}
+
+/// An open that reads the clouds: the session that it will be, the row of the version that it saw, the Gets so far, and what the
+/// answers to them came to.
 #[derive(Drop)]
 pub struct Fetch {
     pub session: u64,
     pub writes: bool,
     pub row: VersionRow,
-    pub order: Sequence<u8>,
     pub gets: Sequence<Asked>,
     pub tracker: ReadTracker,
 }
 
-/// The upload of a closed session: its number, the row of the version that it will be, one object a cloud, the acknowledgements and
-/// the turns (at most 8) so far, the Puts, and the commit once that was asked.
+/// The upload of a closed session: its number and what it left, the row of the version that it will be, its sealed unit, the Puts
+/// so far, the acknowledgements, and the turns since it began.
 #[derive(Drop)]
 pub struct Upload {
     pub session: u64,
+    pub left: Ended,
     pub row: VersionRow,
-    pub objects: Sequence<Bytes>,
-    pub acks: PutTracker,
-    pub turns: u8,
+    pub unit: Sealed,
     pub puts: Sequence<Asked>,
-    pub commit: Option<AskedStep>,
+    pub acks: PutTracker,
+    pub turns: u32,
 }
 
 /// What the unanswered call of an agent waits for: there is none; its step; the clouds; its close.
 #[derive(Drop)]
 pub enum Work {
     Idle,
-    Step(AskedStep, Purpose),
+    Step,
     Fetch(Fetch),
     Upload(Upload),
 }

@@ -1,4 +1,4 @@
-use Rattle.std.proofs.Common.{◌≡◌, ℕ, ◌+◌, suc, List, [], ◌∷◌, ◌++◌, ⊎_elim, refl, ap, ◌∙◌, sym, subst, Option, Some, None, length, arith, Bool, false, true, if◌then◌else◌, inl, inr}
+use Rattle.std.proofs.Common.{◌≡◌, ◌≤◌, ◌^◌, ℕ, ◌+◌, suc, List, [], ◌∷◌, ◌++◌, ⊎_elim, refl, ap, ◌∙◌, sym, subst, Option, Some, None, length, arith, Bool, false, true, if◌then◌else◌, inl, inr}
 use Rattle.std.specs.Prelude.{IfSome}
 use Rattle.scfs_base.specs.Outside.{Puts}
 use Rattle.scfs_policy.specs.declared.rank.RankFacts.{RankFacts}
@@ -6,12 +6,13 @@ use Rattle.scfs_schedule.specs.declared.types.Event.{Event}
 use Rattle.scfs_schedule.specs.declared.types.Header.{Header}
 use Rattle.scfs_schedule.specs.declared.types.Ending.{Ending}
 use Rattle.scfs_schedule.specs.Reading.{Reading, IsAtEvents, Read, read, stopped, with_event, with_header}
-use Rattle.scfs_model.specs.Built.{is_built_header}
-use Rattle.scfs_model.specs.Held.{ReadsHeld}
-use Rattle.scfs_model.specs.History.{Entry, History, events_then, transcript}
-use Rattle.scfs_model.specs.Run.{Run}
-use Rattle.scfs_model.specs.UnitFormat.{under}
-use Rattle.scfs_world.specs.Blocks.{NoClash}
+use Rattle.scfs_world.specs.Built.{is_built_header}
+use Rattle.scfs_machine.specs.Held.{ReadsHeld}
+use Rattle.scfs_machine.specs.Newest.{OpensNewest}
+use Rattle.scfs_machine.specs.History.{Entry, History, events_then, transcript}
+use Rattle.scfs_machine.specs.Runs.{Happens, Run}
+use Rattle.scfs_machine.specs.UnitFormat.{under}
+use Rattle.scfs_machine.specs.Blocks.{NoClash}
 use Rattle.scfs_cli.specs.declared.play.Played.{Played}
 use Rattle.scfs_cli.specs.declared.play.Played.TheVariants as playeds
 use Rattle.scfs_cli.specs.declared.closing.Filled.{Filled}
@@ -24,7 +25,8 @@ use Rattle.scfs_cli.specs.declared.closing.LastLine.{LastLine}
 use Rattle.scfs_cli.specs.Closing.{closing_of, closing_text, closing_status, last_line_text, status_of}
 use Rattle.scfs_cli.specs.Edges.{GetsFront, GetsPart}
 use Rattle.scfs_world.specs.Happening.{IsPlayed}
-use Rattle.scfs_world.specs.Laws.{NoClashBefore, ReadsAreHeld}
+use Rattle.scfs_machine.specs.Format.{Setup}
+use Rattle.scfs_machine.specs.Laws.{NoClashBefore}
 use Rattle.scfs_cli.specs.Finishing.{IsTooLargeNext, EndsWith}
 use Rattle.scfs_cli.specs.Headline.{Closes, GetsText, IsStatus, ReplaysText}
 use Rattle.scfs_cli.proofs.ClosingLemmas.{line_behind, part_behind, status_behind}
@@ -105,6 +107,7 @@ same_header reader one other h k = let e = sym h ∙ k in cc
 pub record Known (allows : RankFacts → ℕ → Type 0) (header : Header) (past : History) : Type 0 where
   pub plays : IsPlayed allows header past
   pub held : ReadsHeld (under header) past
+  pub newest : OpensNewest past
   pub run : NoClash header past → Run (under header) past
 
 -- before its first event
@@ -112,15 +115,18 @@ pub nothing_known : (allows : RankFacts → ℕ → Type 0) (header : Header) �
 nothing_known allows header = record {
   plays = record { happens = tt; served = tt; ranked = tt; events = tt; carried = omega arith };
   held = tt;
+  newest = tt;
   run = λ _. tt;
 }
 
 -- with one event more
-pub known_next : (allows : RankFacts → ℕ → Type 0) (header : Header) (past : History) (event : Event) (entry : Entry) → NoClashBefore → ReadsAreHeld →
+pub known_next : (allows : RankFacts → ℕ → Type 0) (header : Header) (past : History) (event : Event) (entry : Entry) → NoClashBefore → ((s : Setup) (past : History) → Happens s past → ReadsHeld s past) →
+    ((s : Setup) (past : History) → length past ≤ 2 ^ 32 → Happens s past → OpensNewest past) → length (entry ∷ past) ≤ 2 ^ 32 →
     Known allows header past → IsNext allows header past event entry → Known allows header (entry ∷ past)
-known_next allows header past event entry before held known next = record {
+known_next allows header past event entry before held newest few known next = record {
   plays = next.plays;
-  held = held header (entry ∷ past) next.plays.happens;
+  held = held (under header) (entry ∷ past) next.plays.happens;
+  newest = newest (under header) (entry ∷ past) few next.plays.happens;
   run = λ apart. (next.permits apart, known.run (before header entry past apart));
 }
 
@@ -133,6 +139,7 @@ plays_finish allows header past whole count finish a b known same counted puts =
       past = past;
       plays = known.plays;
       held = known.held;
+      newest = known.newest;
       run = known.run;
       ends = inl (sym (ap (λ (r : Playing). r.events) same), sym (ap (λ (r : Playing). r.finish) same));
       counts = counted;
@@ -148,6 +155,7 @@ plays_large allows header past whole rest event count a b known same large count
       past = past;
       plays = known.plays;
       held = known.held;
+      newest = known.newest;
       run = known.run;
       ends = inr (refl, (event, rest.events, sym (ap (λ (r : Playing). r.events) same), large));
       counts = counted;
@@ -161,6 +169,7 @@ plays_fault allows header past whole rest a b known same g =
       past = past;
       plays = known.plays;
       held = known.held;
+      newest = known.newest;
       run = known.run;
       ends = (rest.events, sym (ap (λ (r : Playing). r.events) same));
       counts = tt;
@@ -174,6 +183,7 @@ plays_memory allows header past whole rest a b known same g =
       past = past;
       plays = known.plays;
       held = known.held;
+      newest = known.newest;
       run = known.run;
       ends = (rest.events, sym (ap (λ (r : Playing). r.events) same));
       counts = tt;
@@ -202,6 +212,7 @@ plays_nothing allows whole a =
         past = [];
         plays = none.plays;
         held = none.held;
+        newest = none.newest;
         run = none.run;
         ends = (whole.events, refl);
         counts = tt;
@@ -221,6 +232,7 @@ plays_stop allows whole finish a is =
         past = [];
         plays = none.plays;
         held = none.held;
+        newest = none.newest;
         run = none.run;
         ends = inl (sym (ap (λ (r : Playing). r.events) is), sym (ap (λ (r : Playing). r.finish) is));
         counts = refl;
@@ -231,11 +243,11 @@ plays_stop allows whole finish a is =
 -- the header stated does not matter to what is said of events
 same_events : (allows : RankFacts → ℕ → Type 0) (header : Header) (rest : Playing) (a b : Option (List ℕ)) (played : Played) → PlaysEvents allows header rest a b played → PlaysEvents allows header (under_header header rest) a b played
 same_events allows header rest a b (playeds.Ended count finish) p =
-    record { past = p.past; plays = p.plays; held = p.held; run = p.run; ends = p.ends; counts = p.counts; wrote = p.wrote }
+    record { past = p.past; plays = p.plays; held = p.held; newest = p.newest; run = p.run; ends = p.ends; counts = p.counts; wrote = p.wrote }
 same_events allows header rest a b playeds.WriteFault p =
-    record { past = p.past; plays = p.plays; held = p.held; run = p.run; ends = p.ends; counts = p.counts; wrote = p.wrote }
+    record { past = p.past; plays = p.plays; held = p.held; newest = p.newest; run = p.run; ends = p.ends; counts = p.counts; wrote = p.wrote }
 same_events allows header rest a b playeds.Memory p =
-    record { past = p.past; plays = p.plays; held = p.held; run = p.run; ends = p.ends; counts = p.counts; wrote = p.wrote }
+    record { past = p.past; plays = p.plays; held = p.held; newest = p.newest; run = p.run; ends = p.ends; counts = p.counts; wrote = p.wrote }
 
 -- a header, and then its events
 pub plays_header : (allows : RankFacts → ℕ → Type 0) (whole rest : Playing) (header : Header) (a b : Option (List ℕ)) (played : Played) → whole ≡ under_header header rest →
@@ -259,6 +271,7 @@ fault_text allows taken filled whole a b is p =
       ends = q.events.ends;
       plays = q.events.plays;
       held = q.events.held;
+      newest = q.events.newest;
       run = q.events.run;
       wrote = part_then a b (transcript q.events.past) [] q.events.wrote;
       decided = tt;
@@ -275,6 +288,7 @@ memory_text allows taken filled whole a b is p =
       ends = q.events.ends;
       plays = q.events.plays;
       held = q.events.held;
+      newest = q.events.newest;
       run = q.events.run;
       wrote = front_then a b (transcript q.events.past) [] q.events.wrote;
       decided = refl;
@@ -300,6 +314,7 @@ unclosed_text allows taken filled whole a b c count finish is p nothing =
       ends = first_events allows q.header past (played (read false taken)) finish q.events.ends;
       plays = q.events.plays;
       held = q.events.held;
+      newest = q.events.newest;
       run = q.events.run;
       wrote = front_of_more a c (transcript past) [] (puts_more a b c (transcript past) q.events.wrote nothing);
       decided = refl;
@@ -322,6 +337,7 @@ finished_text allows taken filled a b c count finish status q closes =
       ends = q.events.ends;
       plays = q.events.plays;
       held = q.events.held;
+      newest = q.events.newest;
       run = q.events.run;
       wrote = closes.0;
       decided = closes.1;

@@ -1,4 +1,4 @@
-use Rattle.std.proofs.Common.{◌≡◌, ℕ, ◌+◌, List, [], ◌∷◌, refl, ap, ◌∙◌, sym, subst, Option, length, arith}
+use Rattle.std.proofs.Common.{◌≡◌, ◌<◌, ◌≤◌, ◌^◌, ℕ, ◌+◌, List, [], ◌∷◌, refl, ap, ◌∙◌, sym, subst, Option, length, arith}
 use Rattle.std.specs.List.{flat_map}
 use Rattle.scfs_base.specs.Outside.{Puts}
 use Rattle.scfs_policy.specs.declared.rank.RankFacts.{RankFacts}
@@ -6,13 +6,23 @@ use Rattle.scfs_schedule.specs.declared.types.Event.{Event}
 use Rattle.scfs_schedule.specs.declared.types.Header.{Header}
 use Rattle.scfs_schedule.specs.declared.types.Line.{Line}
 use Rattle.scfs_schedule.specs.Text.{numbered}
-use Rattle.scfs_model.specs.History.{Entry, History}
-use Rattle.scfs_world.specs.Standing.{Stands}
+use Rattle.scfs_machine.specs.History.{Entry, History}
+use Rattle.scfs_base.specs.Limits.{carried_limit}
+use Rattle.scfs_net.specs.Queues.{NetState}
+use Rattle.scfs_machine.specs.Clouds.{all_asked, message_of, moved_by, net}
+use Rattle.scfs_machine.specs.Layers.{Row, rows}
+use Rattle.scfs_machine.specs.Runs.{Answers, actual, Happens}
+use Rattle.scfs_machine.specs.States.{Effect, effect}
+use Rattle.scfs_machine.specs.UnitFormat.{under}
+use Rattle.scfs_world.specs.Happening.{Stands}
+use Rattle.scfs_world.specs.Stepping.{IsTooLarge}
+use Rattle.scfs_world.specs.Whole.{StatesAreWhole}
 use Rattle.scfs_world.specs.State.{WorldState}
 use Rattle.scfs_cli.specs.declared.closing.Finish.{Finish}
 use Rattle.scfs_cli.specs.declared.play.Turn.{Turn}
 use Rattle.scfs_cli.specs.declared.play.Turn.TheVariants as turns
 use Rattle.scfs_cli.specs.Edges.{GetsPart}
+use Rattle.scfs_cli.specs.Finishing.{IsTooLargeNext}
 use Rattle.scfs_cli.specs.Plays.{Turns, IsNext, entry_text}
 use Rattle.scfs_cli.proofs.EdgeLemmas.{puts_nothing}
 
@@ -49,3 +59,19 @@ written_turn allows header past event world lines before after turns.WriteFault 
     (did.entry, did.next, subst (λ t. GetsPart before after t) (same_text allows header past event world lines did) (wrote.front refl))
 written_turn allows header past event world lines before after turns.Memory did wrote =
     subst (λ (o : Option (List ℕ)). Puts before o []) (sym (wrote.nothing refl)) (puts_nothing before)
+
+-- an event after a history, under a header and with clouds that are those of the history, would carry too many bytes
+abbrev LargeAt : (allows : RankFacts → ℕ → Type 0) → Header → History → Event → (h : Header) → NetState → Type 0
+LargeAt allows header past event h clouds =
+    let state = actual (under header) past in
+    let after : List ℕ → Effect Row = λ ranks. effect (under h) rows state event (message_of clouds event) (record { now = state.clock; ranks = ranks }) in
+    (ranks : List ℕ) × Answers allows (after ranks).ranked ranks × (carried_limit < (all_asked (moved_by event clouds) (after ranks).sent).carried)
+
+-- an event that is too large for a world is so for the history that it stands for
+pub too_large_next : (allows : RankFacts → ℕ → Type 0) (header : Header) (past : History) (world : WorldState) (event : Event)
+    → StatesAreWhole → Stands world header past → Happens (under header) past → length past ≤ 2 ^ 32 → IsTooLarge allows world event
+    → IsTooLargeNext allows header past event
+too_large_next allows header past world event whole stands happens few large =
+    subst (λ h. LargeAt allows header past event h (net (under header) past)) stands.by_header
+    (subst (λ clouds. LargeAt allows header past event world.header clouds) stands.clouds
+    (large (actual (under header) past) stands.shows (whole header past few happens)))

@@ -7,7 +7,7 @@ use Rattle.scfs_schedule.specs.declared.types.Ending.{Ending}
 use Rattle.scfs_schedule.specs.Reading.{Read}
 use Rattle.scfs_cli.specs.declared.closing.Finish.{Finish}
 use Rattle.scfs_cli.specs.declared.closing.Finish.TheVariants as finishes
-use Rattle.scfs_model.specs.Built.{is_built_header, is_built}
+use Rattle.scfs_world.specs.Built.{is_built_header, is_built}
 
 -- the header and the events that are played, and how that ends
 pub record Playing : Type 0 where

@@ -8,12 +8,13 @@ use Rattle.scfs_schedule.specs.Reading.{Reading, IsAtEvents, gives, stopped, wit
 use Rattle.scfs_schedule.specs.Grammar.{IsHeader, IsEvent}
 use Rattle.scfs_schedule.specs.declared.types.Ending.{Ending}
 use Rattle.scfs_schedule.specs.Text.{numbered}
-use Rattle.scfs_model.specs.History.{Entry, History, transcript}
-use Rattle.scfs_model.specs.Held.{ReadsHeld}
-use Rattle.scfs_model.specs.Run.{Permits, Run}
-use Rattle.scfs_world.specs.Blocks.{NoClash}
-use Rattle.scfs_model.specs.UnitFormat.{under}
-use Rattle.scfs_world.specs.Standing.{Stands}
+use Rattle.scfs_machine.specs.History.{Entry, History, transcript}
+use Rattle.scfs_machine.specs.Held.{ReadsHeld}
+use Rattle.scfs_machine.specs.Newest.{OpensNewest}
+use Rattle.scfs_machine.specs.Runs.{due, Run}
+use Rattle.scfs_machine.specs.Blocks.{NoClash}
+use Rattle.scfs_machine.specs.UnitFormat.{under}
+use Rattle.scfs_world.specs.Happening.{Stands}
 use Rattle.scfs_cli.specs.declared.play.Played.{Played}
 use Rattle.scfs_cli.specs.declared.play.Played.TheVariants as playeds
 use Rattle.scfs_cli.specs.declared.play.Turn.{Turn}
@@ -46,7 +47,7 @@ entry_text past e = flat_map (numbered (length past + 1)) e.lines
 pub record IsNext (allows : RankFacts → ℕ → Type 0) (header : Header) (past : History) (event : Event) (e : Entry) : Type 0 where
   pub same : e.event ≡ event
   pub plays : IsPlayed allows header (e ∷ past)
-  pub permits : NoClash header (e ∷ past) → Permits (under header) past e
+  pub permits : NoClash header (e ∷ past) → e.lines ≡ due (under header) past e
 
 -- one event's turn: the world stands for the history with its entry, and the lines were written; or it ended what is played, and
 -- nothing was; or it would carry too many bytes; or not all of its lines were written, or nothing
@@ -82,6 +83,7 @@ pub record PlaysEvents (allows : RankFacts → ℕ → Type 0) (header : Header)
   pub past : History
   pub plays : IsPlayed allows header past
   pub held : ReadsHeld (under header) past
+  pub newest : OpensNewest past
   pub run : NoClash header past → Run (under header) past
   pub ends : EndsWith allows header past playing (finish_of played)
   pub counts : Counts played past

@@ -1,4 +1,4 @@
-ghost use Rattle.std.specs.Prelude.{◌≡◌, Some, IfOk, MatchOption};
+ghost use Rattle.std.specs.Prelude.{◌≡◌, Some, IfOk};
 ghost use Rattle.scfs_cli.specs.Closing.{closing_of, stop_closing, fault_text, last_line_text, status_number, status_of, which_text};
 
 use scfs_base::{Bytes, Memory};

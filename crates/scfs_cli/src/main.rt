@@ -2,8 +2,6 @@
 //! transcript to standard output.
 #![tactic(auto)]
 
-#[cfg(test)]
-mod alone;
 mod built;
 mod call;
 mod closing;

@@ -1,4 +1,4 @@
-ghost use Rattle.std.specs.Prelude.{◌≡◌, ◌+◌, ◌<◌, ◌≤◌, List, ℕ, [], ◌∷◌, IfOk, OnOk, true, Some, None};
+ghost use Rattle.std.specs.Prelude.{◌≡◌, ◌+◌, ◌<◌, ◌≤◌, ℕ, [], ◌∷◌, IfOk, true, Some, None};
 ghost use Rattle.std.specs.List.{flat_map};
 ghost use Rattle.scfs_base.specs.Limits.{events_limit};
 ghost use Rattle.scfs_base.specs.Outside.{Puts, Rose};
@@ -8,23 +8,26 @@ ghost use Rattle.scfs_schedule.specs.Grammar.{IsEvent};
 ghost use Rattle.scfs_schedule.specs.Reading.{IsAtEvents, IsDrained, gives};
 ghost use Rattle.scfs_schedule.specs.Text.{numbered};
 ghost use Rattle.scfs_schedule.specs.declared.types.Header.{Header};
-ghost use Rattle.scfs_model.specs.Built.{is_built};
-ghost use Rattle.scfs_model.specs.History.{History};
+ghost use Rattle.scfs_world.specs.Built.{is_built};
+ghost use Rattle.scfs_machine.specs.History.{History};
 ghost use Rattle.scfs_world.specs.Happening.{IsPlayed};
-ghost use Rattle.scfs_world.specs.Standing.{Stands};
+ghost use Rattle.scfs_world.specs.Happening.{Stands};
 ghost use Rattle.scfs_world.specs.State.{WorldState};
-ghost use Rattle.scfs_world.specs.Worlds.{IsWorld};
+ghost use Rattle.scfs_world.specs.Stepping.{IsWorld, IsShown};
 ghost use Rattle.scfs_cli.specs.Playing.{events_played, finish_at, played};
 ghost use Rattle.scfs_cli.specs.declared.closing.Finish.{Finish};
 ghost use Rattle.scfs_cli.specs.Plays.{Begins, GoesOn, Plays, PlaysEvents, Turns};
 
-use crate::built::{finish_at, is_built_header};
+use crate::built::finish_at;
 use crate::closing::Finish;
 use crate::edges::write_all;
 use scfs_base::{Bytes, Failed, Memory, Sink};
+use scfs_machine::{no_clash_before, opens_are_newest, reads_are_held};
 use scfs_policy::{RankFacts, RankRule};
 use scfs_schedule::{Ending, Event, Header, Item, Line, Reader, Stop, push_line};
-use scfs_world::{StepFault, Stepped, World, no_clash_before, reads_are_held};
+use scfs_world::{
+    StepFault, Stepped, World, is_built_header, standing_worlds_are_shown, states_are_whole,
+};
 use std::alloc::Global;
 
 /// How playing a schedule ended: it came to its finish after so many events, writing failed, or memory was wanting.
@@ -66,6 +69,7 @@ fn take_turn<O: Sink, R: Fn(RankFacts) -> u64>(
     out: &mut O,
 ) -> Turn
     requires world { IsWorld world }
+    requires shown { IsShown world }
     requires event { IsEvent world.header event.now }
     requires built { is_built event.now ≡ true }
     requires room { world.events < events_limit }
@@ -78,6 +82,7 @@ fn take_turn<O: Sink, R: Fn(RankFacts) -> u64>(
     ensures fault { result ≡ Turn.WriteFault → Rose (O.faults out.old) (O.faults out.new) }
     ensures later { O.faults out.old ≤ O.faults out.new }
 {
+    states_are_whole();
     match world.step(event, rank) {
         Err(end) => match end.fault {
             StepFault::TooLarge => Turn::TooLarge,
@@ -119,6 +124,7 @@ fn play_event<O: Sink, R: Fn(RankFacts) -> u64>(
     out: &mut O,
 ) -> Turn
     requires world { IsWorld world }
+    requires shown { IsShown world }
     requires event { IsEvent world.header event }
     requires room { world.events ≤ events_limit }
     requires rank { IsRankRule (R.pre rank.now) }
@@ -187,6 +193,8 @@ fn play_events<O: Sink, R: Fn(RankFacts) -> u64>(
 {
     no_clash_before();
     reads_are_held();
+    opens_are_newest();
+    standing_worlds_are_shown();
     let mut world = world;
     'events: loop {
         let Ok(next) = next_event(reader) else {

@@ -1,69 +1,131 @@
--- What the outputs of a reaction come to.
-use Rattle.std.proofs.Common.{◌≡◌, List, [], ◌∷◌, ◌++◌, map, refl, ap, ◌∙◌}
-use Rattle.scfs_base.specs.declared.naming.RequestNo.{RequestNo}
+-- What the outputs of a reaction come to: its lines, its steps, and its requests at the clouds.
+use Rattle.std.proofs.Common.{◌≡◌, ℕ, ◌+◌, ◌*◌, ◌≤◌, List, [], ◌∷◌, ◌++◌, map, length, refl, ap, ◌∙◌, arith, All, length-set, append_assoc, append-nil}
+use Rattle.std.proofs.lemmas.List.Elements.{All-weaker, All-append, All-head, All-tail, All-nil, All-cons}
 use Rattle.scfs_schedule.specs.declared.types.Line.{Line}
-use Rattle.scfs_net.specs.Queues.{NetState}
-use Rattle.scfs_model.specs.Format.{Setup}
-use Rattle.scfs_model.specs.Agents.{Act, Put, Get, Request, Sent, steps_in, Reaction}
-use Rattle.scfs_model.specs.Requests.{request_lines}
-use Rattle.scfs_agent.specs.Reacting.{asked_output, asked_outputs, outputs_of}
+use Rattle.scfs_tuples.specs.Steps.{IsStep}
+use Rattle.scfs_net.specs.Queues.{NetState, asked, cloud_at}
+use Rattle.scfs_machine.specs.Clouds.{asked_by, all_asked}
+use Rattle.scfs_machine.specs.Format.{Setup}
+use Rattle.scfs_machine.specs.Layers.{Row}
+use Rattle.scfs_machine.specs.Sayings.{Saying, said_by}
+use Rattle.scfs_machine.specs.Agents.{Request, Sent, Reaction}
+use Rattle.scfs_machine.specs.States.{request_line}
+use Rattle.scfs_agent.specs.Keeping.{FitsOutput}
+use Rattle.scfs_agent.specs.Outputs.{said_outputs, step_output, sent_outputs, outputs_of}
+use Rattle.scfs_agent.specs.State.{AgentState}
 use Rattle.scfs_agent.specs.declared.types.Output.{Output}
 use Rattle.scfs_agent.specs.declared.types.Output.TheVariants as outputs
-use Rattle.scfs_world.specs.Clouds.{all_asked}
-use Rattle.scfs_world.specs.Doing.{steps_out, lines_out, net_with}
-use Rattle.scfs_world.specs.Standing.{ask_state}
+use Rattle.scfs_world.specs.Doing.{step_out, steps_out, lines_out, net_by, net_with, AsksAmong}
+use Rattle.scfs_world.specs.Shows.{step_asked}
+use Rattle.scfs_world.specs.declared.seat.StepAsked.{StepAsked}
 
-abbrev said : List Line → List Output
-said says = map (λ line. outputs.Line line) says
+-- what it says, asks of the space and asks of clouds, one after the other
 
-lines_said : (s : Setup) (says : List Line) (rest : List Output) → lines_out s (said says ++ rest) ≡ says ++ lines_out s rest
-lines_said s [] rest = refl
-lines_said s (line ∷ says) rest = ap (λ ls. line ∷ ls) (lines_said s says rest)
+module _ (s : Setup) (a lease : ℕ) where
+  lines_sent : (sent : List Sent) → lines_out s (sent_outputs sent) ≡ map (λ (x : Sent). request_line s x.number x.cloud x.body) sent
+  lines_sent [] = refl
+  lines_sent (x ∷ rest) = ap (λ ls. request_line s x.number x.cloud x.body ∷ ls) (lines_sent rest)
 
-steps_said : (says : List Line) (rest : List Output) → steps_out (said says ++ rest) ≡ steps_out rest
-steps_said [] rest = refl
-steps_said (line ∷ says) rest = steps_said says rest
+  lines_steps : (steps : List (Request Row)) (rest : List Output) → lines_out s (map (step_output lease) steps ++ rest) ≡ lines_out s rest
+  lines_steps [] rest = refl
+  lines_steps (x ∷ steps) rest = lines_steps steps rest
 
-net_said : (n : NetState) (says : List Line) (rest : List Output) → net_with n (said says ++ rest) ≡ net_with n rest
-net_said n [] rest = refl
-net_said n (line ∷ says) rest = net_said n says rest
+  lines_says : (says : List Saying) (rest : List Output) → lines_out s (said_outputs a says ++ rest) ≡ map (said_by a) says ++ lines_out s rest
+  lines_says [] rest = refl
+  lines_says (x ∷ says) rest = ap (λ ls. said_by a x ∷ ls) (lines_says says rest)
 
--- one request before others
-lines_one : (s : Setup) (number : RequestNo) (request : Request) (rest : List Sent) → lines_out s (asked_outputs s rest) ≡ request_lines s rest
-    → lines_out s (asked_outputs s ((record { number = number; request = request }) ∷ rest)) ≡ request_lines s ((record { number = number; request = request }) ∷ rest)
-lines_one s number (Act step) rest h = h
-lines_one s number (Put c u contents) rest h = ap (λ ls. lines_out s (asked_output s number (Put c u contents)) ++ ls) h
-lines_one s number (Get c v) rest h = ap (λ ls. lines_out s (asked_output s number (Get c v)) ++ ls) h
+  steps_sent : (sent : List Sent) → steps_out (sent_outputs sent) ≡ []
+  steps_sent [] = refl
+  steps_sent (x ∷ rest) = steps_sent rest
 
-lines_asked : (s : Setup) (sent : List Sent) → lines_out s (asked_outputs s sent) ≡ request_lines s sent
-lines_asked s [] = refl
-lines_asked s (x ∷ rest) = lines_one s x.number x.request rest (lines_asked s rest)
+  steps_steps : (steps : List (Request Row)) (rest : List Output)
+      → steps_out (map (step_output lease) steps ++ rest) ≡ map (step_asked lease) steps ++ steps_out rest
+  steps_steps [] rest = refl
+  steps_steps (x ∷ steps) rest = ap (λ xs. step_asked lease x ∷ xs) (steps_steps steps rest)
 
-steps_one : (s : Setup) (number : RequestNo) (request : Request) (rest : List Sent) → steps_out (asked_outputs s rest) ≡ map (ask_state s) (steps_in rest)
-    → steps_out (asked_outputs s ((record { number = number; request = request }) ∷ rest)) ≡ map (ask_state s) (steps_in ((record { number = number; request = request }) ∷ rest))
-steps_one s number (Act step) rest h = ap (λ ls. steps_out (asked_output s number (Act step)) ++ ls) h
-steps_one s number (Put c u contents) rest h = h
-steps_one s number (Get c v) rest h = h
+  steps_says : (says : List Saying) (rest : List Output) → steps_out (said_outputs a says ++ rest) ≡ steps_out rest
+  steps_says [] rest = refl
+  steps_says (x ∷ says) rest = steps_says says rest
 
-steps_asked : (s : Setup) (sent : List Sent) → steps_out (asked_outputs s sent) ≡ map (ask_state s) (steps_in sent)
-steps_asked s [] = refl
-steps_asked s (x ∷ rest) = steps_one s x.number x.request rest (steps_asked s rest)
+  net_sent : (sent : List Sent) (net : NetState) → net_with net (sent_outputs sent) ≡ all_asked net sent
+  net_sent [] net = refl
+  net_sent (x ∷ rest) net = net_sent rest (asked_by net x)
 
-net_one : (s : Setup) (n : NetState) (number : RequestNo) (request : Request) (rest : List Sent) → ((m : NetState) → net_with m (asked_outputs s rest) ≡ all_asked s m rest)
-    → net_with n (asked_outputs s ((record { number = number; request = request }) ∷ rest)) ≡ all_asked s n ((record { number = number; request = request }) ∷ rest)
-net_one s n number (Act step) rest h = h n
-net_one s n number (Put c u contents) rest h = h _
-net_one s n number (Get c v) rest h = h _
+  net_steps : (net : NetState) (steps : List (Request Row)) (rest : List Output) → net_with net (map (step_output lease) steps ++ rest) ≡ net_with net rest
+  net_steps net [] rest = refl
+  net_steps net (x ∷ steps) rest = net_steps net steps rest
 
-net_asks : (s : Setup) (n : NetState) (sent : List Sent) → net_with n (asked_outputs s sent) ≡ all_asked s n sent
-net_asks s n [] = refl
-net_asks s n (x ∷ rest) = net_one s n x.number x.request rest (λ m. net_asks s m rest)
+  net_says : (net : NetState) (says : List Saying) (rest : List Output) → net_with net (said_outputs a says ++ rest) ≡ net_with net rest
+  net_says net [] rest = refl
+  net_says net (x ∷ says) rest = net_says net says rest
 
-pub lines_reacted : (s : Setup) (r : Reaction) → lines_out s (outputs_of s r) ≡ r.says ++ request_lines s r.sent
-lines_reacted s r = lines_said s r.says (asked_outputs s r.sent) ∙ ap (λ ls. r.says ++ ls) (lines_asked s r.sent)
+-- of a whole reaction
+module _ (s : Setup) (a : AgentState) (r : Reaction Row) where
+  abbrev Said : List Output
+  Said = said_outputs a.no r.says
 
-pub steps_reacted : (s : Setup) (r : Reaction) → steps_out (outputs_of s r) ≡ map (ask_state s) (steps_in r.sent)
-steps_reacted s r = steps_said r.says (asked_outputs s r.sent) ∙ steps_asked s r.sent
+  abbrev Steps : List Output
+  Steps = map (step_output a.header.lease) r.steps
 
-pub net_reacted : (s : Setup) (n : NetState) (r : Reaction) → net_with n (outputs_of s r) ≡ all_asked s n r.sent
-net_reacted s n r = net_said n r.says (asked_outputs s r.sent) ∙ net_asks s n r.sent
+  abbrev Asked : List Output
+  Asked = sent_outputs r.sent
+
+  pub lines_reacted : (given : List Output) → given ≡ outputs_of a r
+      → lines_out s given ≡ map (said_by a.no) r.says ++ map (λ (x : Sent). request_line s x.number x.cloud x.body) r.sent
+  lines_reacted given is =
+      ap (lines_out s) (is ∙ append_assoc Said Steps Asked) ∙ lines_says s a.no a.header.lease r.says (Steps ++ Asked)
+      ∙ ap (λ ls. map (said_by a.no) r.says ++ ls) (lines_steps s a.no a.header.lease r.steps Asked ∙ lines_sent s a.no a.header.lease r.sent)
+
+  pub steps_reacted : (given : List Output) → given ≡ outputs_of a r → steps_out given ≡ map (step_asked a.header.lease) r.steps
+  steps_reacted given is =
+      ap steps_out (is ∙ append_assoc Said Steps Asked) ∙ steps_says s a.no a.header.lease r.says (Steps ++ Asked)
+      ∙ steps_steps s a.no a.header.lease r.steps Asked
+      ∙ ap (λ xs. map (step_asked a.header.lease) r.steps ++ xs) (steps_sent s a.no a.header.lease r.sent)
+      ∙ append-nil (map (step_asked a.header.lease) r.steps)
+
+  pub net_reacted : (net : NetState) (given : List Output) → given ≡ outputs_of a r → net_with net given ≡ all_asked net r.sent
+  net_reacted net given is =
+      ap (net_with net) (is ∙ append_assoc Said Steps Asked) ∙ net_says s a.no a.header.lease net r.says (Steps ++ Asked)
+      ∙ net_steps s a.no a.header.lease net r.steps Asked ∙ net_sent s a.no a.header.lease r.sent net
+
+-- outputs at the clouds and among the steps that wait
+
+pub length-net_by : (n : NetState) (o : Output) → length (net_by n o).clouds ≡ length n.clouds
+length-net_by n (outputs.Space request step) = refl
+length-net_by n (outputs.Cloud c request body) = length-set n.clouds c (asked request body (cloud_at n c))
+length-net_by n (outputs.Line line) = refl
+
+pub length-net_with : (n : NetState) (given : List Output) → length (net_with n given).clouds ≡ length n.clouds
+length-net_with n [] = refl
+length-net_with n (o ∷ given) = length-net_with (net_by n o) given ∙ length-net_by n o
+
+carried_by : (n : NetState) (o : Output) → n.carried ≤ (net_by n o).carried
+carried_by n (outputs.Space request step) = omega arith
+carried_by n (outputs.Cloud c request body) = omega arith
+carried_by n (outputs.Line line) = omega arith
+
+-- what was carried stays so
+pub carried_with : (n : NetState) (given : List Output) → n.carried ≤ (net_with n given).carried
+carried_with n [] = omega arith
+carried_with n (o ∷ given) = omega (arith, carried_by n o, carried_with (net_by n o) given)
+
+pub all_among : (f clouds : ℕ) (given : List Output) → clouds ≡ 3 * f + 1 → All (FitsOutput f) given → All (AsksAmong clouds) given
+all_among f clouds given are fits = All-weaker (FitsOutput f) (AsksAmong clouds) by given fits
+  where
+    by : (o : Output) → FitsOutput f o → AsksAmong clouds o
+    by (outputs.Space request step) h = tt
+    by (outputs.Cloud c request body) h = omega (arith, h)
+    by (outputs.Line line) h = tt
+
+-- the steps that an agent asks are steps
+pub all_steps : (f : ℕ) (given : List Output) → All (FitsOutput f) given → All (λ (x : StepAsked). IsStep x.step) (steps_out given)
+all_steps f [] fits = All-nil (λ (x : StepAsked). IsStep x.step)
+all_steps f (o ∷ given) fits =
+    All-append (λ (x : StepAsked). IsStep x.step) (step_out o) (steps_out given) (by o (All-head (FitsOutput f) o given fits))
+    (all_steps f given (All-tail (FitsOutput f) o given fits))
+  where
+    by : (o : Output) → FitsOutput f o → All (λ (x : StepAsked). IsStep x.step) (step_out o)
+    by (outputs.Space request step) h =
+        All-cons (λ (x : StepAsked). IsStep x.step) (record { request = request; step = step }) [] h (All-nil (λ (x : StepAsked). IsStep x.step))
+    by (outputs.Cloud c request body) h = All-nil (λ (x : StepAsked). IsStep x.step)
+    by (outputs.Line line) h = All-nil (λ (x : StepAsked). IsStep x.step)

@@ -1,185 +1,322 @@
--- Agents with their desks, as the space serves a step or puts it off.
-use Rattle.std.proofs.Common.{◌≡◌, ◌≢◌, ℕ, suc, ◌+◌, ◌*◌, ◌^◌, ◌<◌, ◌≤◌, ◌⊎◌, inl, inr, List, [], ◌∷◌, ◌++◌, map, refl, ap, sym, ◌∙◌, subst, Option, Some, None, arith, append_assoc, append-nil, Contains}
-use Rattle.std.proofs.lemmas.Bool.{cases_lt}
+-- What an event at a seat does is what the machine does there.
+use Rattle.std.proofs.Common.{◌≡◌, ℕ, zero, suc, ◌+◌, ◌<◌, List, [], ◌∷◌, ◌++◌, map, refl, ap, sym, subst, ◌∙◌, arith, le_refl, Some}
+use Rattle.std.specs.Prelude.{slice_get, slice_set}
 use Rattle.std.proofs.lemmas.List.{map-append}
-use Rattle.std.proofs.lemmas.List.Elements.{filter_map-append}
+use Rattle.scfs_base.specs.Limits.{carried_limit}
+use Rattle.scfs_policy.specs.declared.rank.RankFacts.{RankFacts}
+use Rattle.scfs_schedule.specs.declared.types.Event.{Event}
+use Rattle.scfs_schedule.specs.declared.types.Event.TheVariants as events
+use Rattle.scfs_schedule.specs.declared.types.Header.{Header}
+use Rattle.scfs_schedule.specs.declared.types.Line.{Line}
+use Rattle.scfs_schedule.specs.declared.types.Line.TheVariants as lines
+use Rattle.scfs_schedule.specs.declared.types.Call.{Call}
+use Rattle.scfs_base.specs.declared.cloud.CloudAnswer.{CloudAnswer}
 use Rattle.scfs_base.specs.declared.naming.RequestNo.{RequestNo}
+use Rattle.scfs_tuples.specs.After.{reply_of}
+use Rattle.scfs_tuples.specs.declared.types.Tuple.{Tuple}
+use Rattle.scfs_net.specs.Queues.{NetState}
 use Rattle.scfs_anchor.specs.Tree.{Each}
-use Rattle.scfs_model.specs.Format.{Setup}
-use Rattle.scfs_model.specs.Tree.{Node, nodes, live}
-use Rattle.scfs_model.specs.Steps.{Step, Create, Stat, Open_read, Open_write, Commit, Unlock, outcome, tree_after}
-use Rattle.scfs_model.specs.Agents.{Agent, Ask}
-use Rattle.scfs_model.specs.Files.{Desk, Reply, Files}
-use Rattle.scfs_agent.specs.Anchored.{FitsOutcome}
-use Rattle.scfs_world.specs.Keeping.{Differ, made_by, files_of, ask_of, at_desk, last_file, IsDrawn, IsOld, IsAbsent, IsSeated}
-use Rattle.scfs_world.proofs.KeptLemmas.{each_follows}
-use Rattle.scfs_world.proofs.FileLemmas.{each_append, each_left, each_right, differ_rotate, differ_between, nodes_live, nodes_after}
+use Rattle.scfs_anchor.specs.Holding.{Holds, IsFresh, ServesAlike}
+use Rattle.scfs_anchor.specs.StepReplies.{IsReplyTo}
+use Rattle.scfs_anchor.specs.StepPlans.{step_on_tuples}
+use Rattle.scfs_anchor.proofs.HoldLemmas.{holds_on, steps_serve_alike}
+use Rattle.scfs_machine.specs.UnitFormat.{under}
+use Rattle.scfs_machine.specs.Layers.{Row, rows}
+use Rattle.scfs_machine.specs.Lists.{moved_back}
+use Rattle.scfs_machine.specs.Tree.{live}
+use Rattle.scfs_machine.specs.Clouds.{all_asked}
+use Rattle.scfs_machine.specs.Runs.{Answers}
+use Rattle.scfs_machine.specs.Steps.{Served, served}
+use Rattle.scfs_machine.specs.Agents.{Request, Agent, Calls, Tells, Hears, Turns}
+use Rattle.scfs_machine.specs.States.{Reply, Seat, State, skips, serves, postpones, tells, sum_of}
+use Rattle.scfs_machine.proofs.SoundLists.{each_moved}
+use Rattle.scfs_agent.specs.Reacting.{DoesRanked, Reacts}
+use Rattle.scfs_agent.specs.State.{AgentState}
+use Rattle.scfs_agent.specs.Telling.{IsTold, IsIts, pending_step, outcome_step}
+use Rattle.scfs_agent.specs.declared.types.Input.TheVariants as inputs
+use Rattle.scfs_agent.specs.declared.types.Output.{Output}
+use Rattle.scfs_world.specs.Doing.{IsDone, IsTooMuch, FitsOldest, TellsOldest, TellsTooMuch, ServesOldest, PostponesOldest}
+use Rattle.scfs_world.specs.Seating.{Around, IsAt, Leaves, SeatSteps, SeatPasses, IsShownAt, event_at, answer_at}
+use Rattle.scfs_world.specs.Shows.{Together, step_asked, CanBeServed, ShowsReply, ShowsSeat}
+use Rattle.scfs_world.specs.State.{SeatState}
+use Rattle.scfs_world.specs.Whole.{IsOfIts}
+use Rattle.scfs_world.specs.declared.seat.StepReply.{StepReply}
+use Rattle.scfs_world.proofs.InputLemmas.{comes_steps, comes_passes}
+use Rattle.scfs_world.proofs.ServedLines.{line_served}
+use Rattle.scfs_world.proofs.TogetherLemmas.{one_behind, from_any}
 
--- the files of steps, that of the first before the others
-abbrev pub with_file : Option ℕ → List ℕ → List ℕ
-with_file None files = files
-with_file (Some file) files = file ∷ files
+pub set_same : {X : Type 0} (xs : List X) (a : ℕ) (x : X) → slice_get xs a ≡ Some x → slice_set xs a x ≡ xs
+set_same [] a x there = cc
+set_same (z ∷ xs) zero x there = let same : z ≡ x = cc in ap (λ w. w ∷ xs) (sym same)
+set_same (z ∷ xs) (suc a) x there = ap (λ ws. z ∷ ws) (set_same xs a x there)
 
-pub files_first : (request : RequestNo) (step : Step) (rest : List Ask) → files_of ((record { request = request; step = step }) ∷ rest) ≡ with_file (made_by step) (files_of rest)
-files_first request (Create names id) rest = refl
-files_first request (Stat names) rest = refl
-files_first request (Open_read names session) rest = refl
-files_first request (Open_write names session) rest = refl
-files_first request (Commit session y upload) rest = refl
-files_first request (Unlock file session) rest = refl
+-- nothing was there to do
+skip_leaves : (header : Header) (a now most : ℕ) (old : Around) (state : State Row) (m : Seat Row) (shown : List Line) → IsAt header a now most old state m
+    → shown ≡ lines.Skip ∷ [] → Leaves header a now most old old.net shown state (skips state)
+skip_leaves header a now most old state m shown at line = record {
+  m = m;
+  lines = line;
+  clock = refl;
+  seats = sym (set_same state.seats a m at.there);
+  seat = at.seat;
+  space = holds_on now now most (most + 1) old.space state.tree at.space (le_refl _) (omega arith);
+  sent = refl;
+}
 
--- the files of an agent are below those of the next
-pub last_below : (a : ℕ) (m : Agent) → m.incarnation < 2 ^ 24 → m.files < 2 ^ 32 → last_file a m < (a + 1) * 2 ^ 56
-last_below a m incarnation files = omega arith
+-- calls, turns and answers
 
--- what two agents drew is not the same
-drawn_apart : (a b : ℕ) (m n : Agent) (x y : ℕ) → a ≢ b → last_file a m < (a + 1) * 2 ^ 56 → last_file b n < (b + 1) * 2 ^ 56 → IsDrawn a m x → IsDrawn b n y → x ≢ y
-drawn_apart a b m n x y other below_a below_b (above_x, upto_x) (above_y, upto_y) same = omega arith
+module _ (allows : RankFacts → ℕ → Type 0) (now : ℕ) (space : List Tuple) (old : SeatState) (net : NetState) where
+  abbrev At : Around
+  At = record { seat = old; space = space; net = net }
 
-drawn_old : (a b : ℕ) (m n : Agent) (x : ℕ) → a ≢ b → last_file a m < (a + 1) * 2 ^ 56 → IsDrawn a m x → (x ≤ last_file b n) ⊎ ((b + 1) * 2 ^ 56 ≤ x)
-drawn_old a b m n x other below (above, upto) = by (cases_lt a b)
-  where
-    by : (a < b) ⊎ (b ≤ a) → (x ≤ last_file b n) ⊎ ((b + 1) * 2 ^ 56 ≤ x)
-    by (inl before) = inl (omega arith)
-    by (inr behind) = inr (omega arith)
+  module _ (new : SeatState) (after : NetState) (shown : List Line) where
+    abbrev Then : Around
+    Then = record { seat = new; space = space; net = after }
 
-first_each : (P : ℕ → Type 0) (o : Option ℕ) (files : List ℕ) → Each P (with_file o files) → ((file : ℕ) → o ≡ Some file → P file) × Each P files
-first_each P None files all = ((λ file e. cc), all)
-first_each P (Some made) files all = ((λ file e. let same : made ≡ file = cc in subst P same all.0), all.1)
+    pub call_steps : (event : Event) (b : ℕ) (call copy : Call) (before : List Line) → event ≡ events.Call b call → copy ≡ call → before ≡ []
+        → IsDone allows now (inputs.Call copy) before old new net after shown → SeatSteps allows now (event_at event) At Then shown
+    call_steps event b call copy before is same none done =
+        subst (λ e. SeatSteps allows now (event_at e) At Then shown) (sym is)
+        (λ header a most state m small at.
+        let d : IsDone allows now (inputs.Call call) [] old new net after shown =
+        subst (λ ls. IsDone allows now (inputs.Call call) ls old new net after shown) none
+        (subst (λ k. IsDone allows now (inputs.Call k) before old new net after shown) same done) in
+        comes_steps allows now space header a most (inputs.Call call) [] old net state m at.seat at.space (Calls call) at.clock new after shown d d.it.reacts)
 
-first_differs : (o : Option ℕ) (files : List ℕ) → Differ (with_file o files) → ((file : ℕ) → o ≡ Some file → Each (λ f. file ≢ f) files) × Differ files
-first_differs None files all = ((λ file e. cc), all)
-first_differs (Some made) files all = ((λ file e. let same : made ≡ file = cc in subst (λ k. Each (λ f. k ≢ f) files) same all.0), all.1)
+    pub turn_steps : (event : Event) (b : ℕ) (before : List Line) → event ≡ events.Turn b → before ≡ []
+        → IsDone allows now inputs.Turn before old new net after shown → SeatSteps allows now (event_at event) At Then shown
+    turn_steps event b before is none done =
+        subst (λ e. SeatSteps allows now (event_at e) At Then shown) (sym is)
+        (λ header a most state m small at.
+        let d : IsDone allows now inputs.Turn [] old new net after shown =
+        subst (λ ls. IsDone allows now inputs.Turn ls old new net after shown) none done in
+        comes_steps allows now space header a most inputs.Turn [] old net state m at.seat at.space Turns at.clock new after shown d d.it.reacts)
 
-apart_from : (o : Option ℕ) (files : List ℕ) → ((file : ℕ) → o ≡ Some file → Each (λ f. file ≢ f) files) → Each (λ f. (file : ℕ) → o ≡ Some file → file ≢ f) files
-apart_from o [] h = tt
-apart_from o (f ∷ files) h = ((λ file e. (h file e).0), apart_from o files (λ file e. (h file e).1))
+    pub hear_steps : (c : ℕ) (request : RequestNo) (answer : CloudAnswer) (before : List Line)
+        → ((header : Header) → before ≡ lines.Gave c request (sum_of (under header) answer) ∷ [])
+        → IsDone allows now (inputs.Cloud c request answer) before old new net after shown → SeatSteps allows now (answer_at c request answer) At Then shown
+    hear_steps c request answer before line d header a most state m small at =
+        let said : List Line = lines.Gave c request (sum_of (under header) answer) ∷ [] in
+        let done : IsDone allows now (inputs.Cloud c request answer) said old new net after shown =
+        subst (λ ls. IsDone allows now (inputs.Cloud c request answer) ls old new net after shown) (line header) d in
+        comes_steps allows now space header a most (inputs.Cloud c request answer) said old net state m
+        at.seat at.space (Hears c request answer) at.clock new after shown done done.it.reacts
 
--- The space serves a step x of agent a, of a tree that stands in F.
-module _ (s : Setup) (F : Files) (n : ℕ) (x : Ask) (F' : Files)
-    (clock : F'.clock ≡ F.clock)
-    (tree : F'.tree ≡ tree_after (live F.clock F.tree) x.request x.step (outcome (live F.clock F.tree) F.clock s.header.lease x.request x.step))
-    (fits : FitsOutcome s x.step (outcome (live F.clock F.tree) F.clock s.header.lease x.request x.step)) where
-  -- what holds of the numbers of all nodes, and of that of a new file, still does
-  nodes_then : (P : ℕ → Type 0) → ((file : ℕ) → made_by x.step ≡ Some file → P file) → Each (λ (m : Node). P m.id.0) (nodes F.tree) → Each (λ (m : Node). P m.id.0) (nodes F'.tree)
-  nodes_then P new all =
-      subst (λ t. Each (λ (m : Node). P m.id.0) (nodes t)) (sym tree)
-      (nodes_after P s (live F.clock F.tree) F.clock x.request x.step fits new (nodes_live (λ (m : Node). P m.id.0) F.clock F.tree all))
+  pub call_passes : (event : Event) (b : ℕ) (call copy : Call) → event ≡ events.Call b call → copy ≡ call
+      → IsTooMuch allows now (inputs.Call copy) old net → SeatPasses allows now (event_at event) At
+  call_passes event b call copy is same much =
+      subst (λ e. SeatPasses allows now (event_at e) At) (sym is)
+      (λ header a most state m small at.
+      let d : IsTooMuch allows now (inputs.Call call) old net = subst (λ k. IsTooMuch allows now (inputs.Call k) old net) same much in
+      comes_passes allows now space header a most (inputs.Call call) [] old net state m at.seat at.space (Calls call) at.clock d d.it.reacts)
 
-  absent_then : (files : List ℕ) → Each (λ f. (file : ℕ) → made_by x.step ≡ Some file → file ≢ f) files → Each (IsAbsent F.tree) files → Each (IsAbsent F'.tree) files
-  absent_then [] others all = tt
-  absent_then (f ∷ files) others all = (nodes_then (λ k. k ≢ f) others.0 all.0, absent_then files others.1 all.1)
+  pub turn_passes : (event : Event) (b : ℕ) → event ≡ events.Turn b → IsTooMuch allows now inputs.Turn old net → SeatPasses allows now (event_at event) At
+  turn_passes event b is d =
+      subst (λ e. SeatPasses allows now (event_at e) At) (sym is)
+      (λ header a most state m small at.
+      comes_passes allows now space header a most inputs.Turn [] old net state m at.seat at.space Turns at.clock d d.it.reacts)
 
-  moments_then : (replied : List Reply) → Each (λ (r : Reply). r.moment ≤ F.clock) replied → Each (λ (r : Reply). r.moment ≤ F'.clock) replied
-  moments_then replied all = subst (λ now. Each (λ (r : Reply). r.moment ≤ now) replied) (sym clock) all
+  pub hear_passes : (c : ℕ) (request : RequestNo) (answer : CloudAnswer) → IsTooMuch allows now (inputs.Cloud c request answer) old net
+      → SeatPasses allows now (answer_at c request answer) At
+  hear_passes c request answer d header a most state m small at =
+      comes_passes allows now space header a most (inputs.Cloud c request answer) (lines.Gave c request (sum_of (under header) answer) ∷ []) old net state m
+      at.seat at.space (Hears c request answer) at.clock d d.it.reacts
 
-  -- another agent
-  pub seated_beside : (a b : ℕ) (mine m : Agent) (desk : Desk) → a ≢ b → ((file : ℕ) → made_by x.step ≡ Some file → IsDrawn a mine file)
-      → last_file a mine < (a + 1) * 2 ^ 56 → n < 1000000 → IsSeated F n b m desk → IsSeated F' (suc n) b m desk
-  seated_beside a b mine m desk other made below few is =
-      let files : m.files ≤ n = is.drawn in
-      let below_b : last_file b m < (b + 1) * 2 ^ 56 = last_below b m is.incarnation (omega arith) in
+-- a reply that is told
+
+module _ (header : Header) (a : ℕ) (old : SeatState) (m : Seat Row) (shows : ShowsSeat header a old m) where
+  is_told : (x : StepReply) (y : Reply Row) → ShowsReply header.lease x y → IsOfIts m.agent.pending y → IsTold old.agent x.request x.reply y.outcome
+  is_told x y it own = record {
+    replied = subst (λ (h : Header). IsReplyTo h.lease x.request y.outcome x.reply) (sym shows.by_header)
+        (subst (λ n. IsReplyTo header.lease n y.outcome x.reply) (sym it.number) it.replied);
+    fits = it.fits;
+    asked = subst (λ (g : Agent Row). IsIts (pending_step g.pending x.request) (outcome_step y.outcome)) (sym shows.agent)
+        (subst (λ n. IsIts (pending_step m.agent.pending n) (outcome_step y.outcome)) (sym it.number) own);
+  }
+
+  pub fits_oldest : (xs : List StepReply) (ys : List (Reply Row)) → Together (λ n. ShowsReply header.lease) 0 xs ys → Each (IsOfIts m.agent.pending) ys
+      → FitsOldest old.agent xs
+  fits_oldest [] ys t own = tt
+  fits_oldest (x ∷ xs) [] t own = absurd t
+  fits_oldest (x ∷ xs) (y ∷ ys) t own = (y.outcome, is_told x y t.0 own.0)
+
+-- replies told, steps served and postponed, by what waits
+
+module _ (allows : RankFacts → ℕ → Type 0) (now : ℕ) (space : List Tuple) (old : SeatState) (net : NetState) (header : Header) (a most : ℕ) (state : State Row) (m : Seat Row)
+    (at : IsAt header a now most (record { seat = old; space = space; net = net }) state m) where
+  told_reacts : (x : StepReply) (y : Reply Row) (was is : AgentState) (given : List Output) → was ≡ old.agent → ShowsReply header.lease x y → IsOfIts m.agent.pending y
+      → Reacts allows now (inputs.Space x.request x.reply) was is given → DoesRanked allows now (Tells y.number y.outcome) was is given
+  told_reacts x y was is given same it own reacts =
+      subst (λ n. DoesRanked allows now (Tells n y.outcome) was is given) it.number
+      (reacts y.outcome (subst (λ w. IsTold w x.request x.reply y.outcome) (sym same) (is_told header a old m at.seat x y it own)))
+
+  -- the seat without the reply
+  without : (xs : List StepReply) (y : Reply Row) (ys : List (Reply Row)) (t : Together (λ n. ShowsReply header.lease) 0 xs ys)
+      → ShowsSeat header a (record old { replied = xs }) (record m { replied = ys })
+  without xs y ys t = record {
+    by_header = at.seat.by_header;
+    no = at.seat.no;
+    agent = at.seat.agent;
+    asked = at.seat.asked;
+    served = at.seat.served;
+    replied = t;
+  }
+
+  tells_by : (new : SeatState) (after : NetState) (shown : List Line) (xs : List StepReply) (ys : List (Reply Row))
+      → Together (λ n. ShowsReply header.lease) 0 xs ys → Each (IsOfIts m.agent.pending) ys → TellsOldest allows now old new net after shown xs
+      → (ranks : List ℕ) × Answers allows (tells (under header) rows state a (record { now = state.clock; ranks = ranks }) m ys).ranked ranks
+      × Leaves header a now most (record { seat = new; space = space; net = after }) net shown state
+      (tells (under header) rows state a (record { now = state.clock; ranks = ranks }) m ys)
+  tells_by new after shown [] [] t own did = (
+    [],
+    tt,
+    subst (λ s. Leaves header a now most (record { seat = s; space = space; net = after }) net shown state (skips state)) (sym did.0)
+        (subst (λ n. Leaves header a now most (record { seat = old; space = space; net = n }) net shown state (skips state)) (sym did.1)
+        (skip_leaves header a now most (record { seat = old; space = space; net = net }) state m shown at did.2)),
+  )
+  tells_by new after shown [] (y ∷ ys) t own did = absurd t
+  tells_by new after shown (x ∷ xs) [] t own did = absurd t
+  tells_by new after shown (x ∷ xs) (y ∷ ys) t own did =
+      comes_steps allows now space header a most (inputs.Space x.request x.reply) [] (record old { replied = xs }) net state (record m { replied = ys })
+      (without xs y ys (from_any (ShowsReply header.lease) 1 0 xs ys t.1)) at.space (Tells y.number y.outcome) at.clock new after shown did
+      (told_reacts x y old.agent new.agent did.given refl t.0 own.0 did.it.reacts)
+
+  passes_by : (xs : List StepReply) (ys : List (Reply Row)) → Together (λ n. ShowsReply header.lease) 0 xs ys → Each (IsOfIts m.agent.pending) ys
+      → TellsTooMuch allows now old net xs
+      → (ranks : List ℕ) × Answers allows (tells (under header) rows state a (record { now = state.clock; ranks = ranks }) m ys).ranked ranks
+      × (carried_limit < (all_asked net (tells (under header) rows state a (record { now = state.clock; ranks = ranks }) m ys).sent).carried)
+  passes_by [] ys t own did = absurd did
+  passes_by (x ∷ xs) [] t own did = absurd t
+  passes_by (x ∷ xs) (y ∷ ys) t own did =
+      comes_passes allows now space header a most (inputs.Space x.request x.reply) [] (record old { replied = xs }) net state (record m { replied = ys })
+      (without xs y ys (from_any (ShowsReply header.lease) 1 0 xs ys t.1)) at.space (Tells y.number y.outcome) at.clock did
+      (told_reacts x y old.agent did.is did.given refl t.0 own.0 did.it.reacts)
+
+pub tell_steps : (allows : RankFacts → ℕ → Type 0) (now : ℕ) (space : List Tuple) (old new : SeatState) (net after : NetState) (shown : List Line)
+    (event : Event) (b : ℕ) → event ≡ events.Told b → TellsOldest allows now old new net after shown old.replied
+    → SeatSteps allows now (event_at event) (record { seat = old; space = space; net = net }) (record { seat = new; space = space; net = after }) shown
+tell_steps allows now space old new net after shown event b is did =
+    subst (λ e. SeatSteps allows now (event_at e) (record { seat = old; space = space; net = net }) (record { seat = new; space = space; net = after }) shown) (sym is)
+    (λ header a most state m small at. tells_by allows now space old net header a most state m at new after shown old.replied m.replied at.seat.replied at.whole.own did)
+
+pub tell_passes : (allows : RankFacts → ℕ → Type 0) (now : ℕ) (space : List Tuple) (old : SeatState) (net : NetState) (event : Event) (b : ℕ)
+    → event ≡ events.Told b → TellsTooMuch allows now old net old.replied
+    → SeatPasses allows now (event_at event) (record { seat = old; space = space; net = net })
+tell_passes allows now space old net event b is did =
+    subst (λ e. SeatPasses allows now (event_at e) (record { seat = old; space = space; net = net })) (sym is)
+    (λ header a most state m small at. passes_by allows now space old net header a most state m at old.replied m.replied at.seat.replied at.whole.own did)
+
+-- the same seat with other tuples of the space around it, where nothing was there to do
+skips_alone : (allows : RankFacts → ℕ → Type 0) (now : ℕ) (space after : List Tuple) (old new : SeatState) (net : NetState) (shown : List Line)
+    (header : Header) (a most : ℕ) (state : State Row) (m : Seat Row) → IsAt header a now most (record { seat = old; space = space; net = net }) state m
+    → new ≡ old → after ≡ space → shown ≡ lines.Skip ∷ []
+    → Leaves header a now most (record { seat = new; space = after; net = net }) net shown state (skips state)
+skips_alone allows now space after old new net shown header a most state m at same left line =
+    subst (λ s. Leaves header a now most (record { seat = s; space = after; net = net }) net shown state (skips state)) (sym same)
+    (subst (λ ts. Leaves header a now most (record { seat = old; space = ts; net = net }) net shown state (skips state)) (sym left)
+    (skip_leaves header a now most (record { seat = old; space = space; net = net }) state m shown at line))
+
+module _ (space after : List Tuple) (old new : SeatState) (net : NetState) (shown : List Line) (header : Header) (a most : ℕ) (state : State Row)
+    (m : Seat Row) (small : most < 1000000) where
+  abbrev Served_at : (now : ℕ) → List (Request Row) → Type 0
+  Served_at now ys = Leaves header a now most (record { seat = new; space = after; net = net }) net shown state (serves (under header) rows state a m ys)
+
+  -- at the moment of the clock
+  serves_by : (ys : List (Request Row)) → m.asked ≡ ys → IsAt header a state.clock most (record { seat = old; space = space; net = net }) state m
+      → ServesOldest state.clock old new space after shown (map (step_asked header.lease) ys) → Served_at state.clock ys
+  serves_by [] are at did = skips_alone (λ facts rank. Unit {0}) state.clock space after old new net shown header a most state m at did.0 did.1 did.2
+  serves_by (y ∷ ys) are at did =
+      let x : Served Row = served rows (live state.clock state.tree) state.clock header.lease y.number y.step in
+      let step = step_on_tuples header.lease y.number y.step in
+      let can : CanBeServed y = (subst (Each CanBeServed) are at.seat.served).0 in
+      let fresh : Each (λ (q : Request Row). IsFresh state.tree.nodes q.step) (y ∷ ys) = subst (Each _) are at.whole.fresh in
+      let alike : ServesAlike state.clock most header.lease space y.number y.step x =
+      steps_serve_alike state.clock most header.lease space state.tree y.number y.step at.space small can.0 can.1 fresh.0 in
       record {
-        pending = is.pending;
-        numbers = is.numbers;
-        moments = moments_then desk.replied is.moments;
-        incarnation = is.incarnation;
-        drawn = omega arith;
-        old = nodes_then (λ k. (k ≤ last_file b m) ⊎ ((b + 1) * 2 ^ 56 ≤ k)) (λ file e. drawn_old a b mine m file other below (made file e)) is.old;
-        own = is.own;
-        absent = absent_then (files_of desk.asked)
-            (each_follows (IsDrawn b m) (λ f. (file : ℕ) → made_by x.step ≡ Some file → file ≢ f) (files_of desk.asked)
-            (λ f drawn file e. drawn_apart a b mine m file f other below below_b (made file e) drawn) is.own) is.absent;
-        differ = is.differ;
+        m = record m { asked = ys; replied = m.replied ++ (record { number = y.number; outcome = x.outcome }) ∷ [] };
+        lines =
+            did.2
+            ∙ ap (λ line. line ∷ [])
+            (line_served (live state.clock state.tree) state.clock header.lease y.number y.step (reply_of space state.clock step) refl alike.reply);
+        clock = refl;
+        seats = refl;
+        seat = subst (λ s. ShowsSeat header a s (record m { asked = ys; replied = m.replied ++ (record { number = y.number; outcome = x.outcome }) ∷ [] })) (sym did.0)
+            (record {
+              by_header = at.seat.by_header;
+              no = at.seat.no;
+              agent = at.seat.agent;
+              asked = refl;
+              served = (subst (Each CanBeServed) are at.seat.served).1;
+              replied = one_behind (ShowsReply header.lease) 0 old.replied m.replied _ _ at.seat.replied
+                  (record { number = refl; replied = alike.reply; fits = alike.fits });
+            });
+        space = subst (λ ts. Holds state.clock (most + 1) ts x.tree) (sym did.1) alike.holds;
+        sent = refl;
       }
 
-  -- the agent itself: its reply waits behind the others
-  pub seated_served : (a : ℕ) (m : Agent) (desk : Desk) (waiting : List Ask) (r : Reply) → desk.asked ≡ x ∷ waiting → ask_of r ≡ x → r.moment ≡ F.clock
-      → IsSeated F n a m desk → IsSeated F' (suc n) a m (record { asked = waiting; replied = desk.replied ++ r ∷ [] })
-  seated_served a m desk waiting r asked of moment is =
-      let new : Desk = record { asked = waiting; replied = desk.replied ++ r ∷ [] } in
-      let others = waiting ++ map ask_of desk.replied in
-      let was : at_desk desk ≡ x ∷ others = ap (λ l. l ++ map ask_of desk.replied) asked in
-      let are : at_desk new ≡ others ++ x ∷ [] =
-      ap (λ l. waiting ++ l) (map-append ask_of desk.replied (r ∷ [])) ∙ ap (λ y. waiting ++ (map ask_of desk.replied ++ y ∷ [])) of
-      ∙ sym (append_assoc waiting (map ask_of desk.replied) (x ∷ [])) in
-      let files_are : files_of desk.asked ≡ with_file (made_by x.step) (files_of waiting) = ap files_of asked ∙ files_first x.request x.step waiting in
-      let owned = first_each (IsDrawn a m) (made_by x.step) (files_of waiting) (subst (Each (IsDrawn a m)) files_are is.own) in
-      let absences = first_each (IsAbsent F.tree) (made_by x.step) (files_of waiting) (subst (Each (IsAbsent F.tree)) files_are is.absent) in
-      let differences = first_differs (made_by x.step) (files_of waiting) (subst Differ files_are is.differ) in
-      let held = subst (Each (Contains m.pending)) was is.pending in
-      let number : Ask → RequestNo = λ y. y.request in
-      let fewer : m.files ≤ n = is.drawn in
+  abbrev Postponed_at : (now : ℕ) → List (Request Row) → Type 0
+  Postponed_at now ys = Leaves header a now most (record { seat = new; space = space; net = net }) net shown state (postpones state a m ys)
+
+  postpones_by : (now : ℕ) (ys : List (Request Row)) → m.asked ≡ ys → IsAt header a now most (record { seat = old; space = space; net = net }) state m
+      → PostponesOldest old new shown (map (step_asked header.lease) ys) → Postponed_at now ys
+  postpones_by now [] are at did = skips_alone (λ facts rank. Unit {0}) now space space old new net shown header a most state m at did.0 refl did.1
+  postpones_by now (y ∷ ys) are at did =
       record {
-        pending = subst (Each (Contains m.pending)) (sym are) (each_append (Contains m.pending) others (x ∷ []) held.1 (held.0, tt));
-        numbers = subst Differ (sym (ap (map number) are ∙ map-append number others (x ∷ [])))
-            (differ_rotate (number x) (map number others) (subst Differ (ap (map number) was) is.numbers));
-        moments = moments_then (desk.replied ++ r ∷ []) (each_append (λ (q : Reply). q.moment ≤ F.clock) desk.replied (r ∷ []) is.moments (omega (arith, moment), tt));
-        incarnation = is.incarnation;
-        drawn = omega arith;
-        old = nodes_then (λ k. (k ≤ last_file a m) ⊎ ((a + 1) * 2 ^ 56 ≤ k)) (λ file e. inl (owned.0 file e).1) is.old;
-        own = owned.1;
-        absent = absent_then (files_of waiting) (apart_from (made_by x.step) (files_of waiting) differences.0) absences.1;
-        differ = differences.1;
+        m = record m { asked = moved_back m.asked };
+        lines = did.1;
+        clock = refl;
+        seats = refl;
+        seat = subst (λ s. ShowsSeat header a s (record m { asked = moved_back m.asked })) (sym did.0)
+            (record {
+              by_header = at.seat.by_header;
+              no = at.seat.no;
+              agent = at.seat.agent;
+              asked = sym (map-append (step_asked header.lease) ys (y ∷ [])) ∙ ap (λ xs. map (step_asked header.lease) (moved_back xs)) (sym are);
+              served = each_moved CanBeServed m.asked at.seat.served;
+              replied = at.seat.replied;
+            });
+        space = holds_on now now most (most + 1) space state.tree at.space (le_refl _) (omega arith);
+        sent = refl;
       }
 
--- a desk whose oldest step goes to the back
-pub seated_later : (F F' : Files) (n a : ℕ) (m : Agent) (desk : Desk) (x : Ask) (waiting : List Ask) → F'.clock ≡ F.clock → F'.tree ≡ F.tree → desk.asked ≡ x ∷ waiting
-    → IsSeated F n a m desk → IsSeated F' (suc n) a m (record desk { asked = waiting ++ x ∷ [] })
-seated_later F F' n a m desk x waiting clock tree asked is =
-    let replies = map ask_of desk.replied in
-    let was : at_desk desk ≡ x ∷ (waiting ++ replies) = ap (λ l. l ++ replies) asked in
-    let held = subst (Each (Contains m.pending)) was is.pending in
-    let number : Ask → RequestNo = λ y. y.request in
-    let spread : map number ((waiting ++ x ∷ []) ++ replies) ≡ (map number waiting ++ number x ∷ []) ++ map number replies =
-    map-append number (waiting ++ x ∷ []) replies ∙ ap (λ l. l ++ map number replies) (map-append number waiting (x ∷ [])) in
-    let numbers = subst Differ (ap (map number) was ∙ ap (λ l. number x ∷ l) (map-append number waiting replies)) is.numbers in
-    let old_files = with_file (made_by x.step) (files_of waiting) in
-    let files_are : files_of desk.asked ≡ old_files = ap files_of asked ∙ files_first x.request x.step waiting in
-    let files_new : files_of (waiting ++ x ∷ []) ≡ files_of waiting ++ with_file (made_by x.step) [] =
-    filter_map-append (λ (y : Ask). made_by y.step) waiting (x ∷ []) ∙ ap (λ l. files_of waiting ++ l) (files_first x.request x.step []) in
-    let fewer : m.files ≤ n = is.drawn in
-    record {
-      pending = each_append (Contains m.pending) (waiting ++ x ∷ []) replies
-          (each_append (Contains m.pending) waiting (x ∷ []) (each_left (Contains m.pending) waiting replies held.1) (held.0, tt))
-          (each_right (Contains m.pending) waiting replies held.1);
-      numbers = subst Differ (sym spread) (differ_between (map number waiting) (number x ∷ []) (map number replies) numbers.1 (tt, tt) (numbers.0, tt));
-      moments = subst (λ now. Each (λ (r : Reply). r.moment ≤ now) desk.replied) (sym clock) is.moments;
-      incarnation = is.incarnation;
-      drawn = omega arith;
-      old = subst (λ t. Each (IsOld a m) (nodes t)) (sym tree) is.old;
-      own = subst (Each (IsDrawn a m)) (sym files_new) (each_last (IsDrawn a m) (made_by x.step) (files_of waiting) (subst (Each (IsDrawn a m)) files_are is.own));
-      absent = subst (λ t. Each (IsAbsent t) (files_of (waiting ++ x ∷ []))) (sym tree)
-          (subst (Each (IsAbsent F.tree)) (sym files_new) (each_last (IsAbsent F.tree) (made_by x.step) (files_of waiting) (subst (Each (IsAbsent F.tree)) files_are is.absent)));
-      differ = subst Differ (sym files_new) (differ_last (made_by x.step) (files_of waiting) (subst Differ files_are is.differ));
-    }
+pub serve_steps : (allows : RankFacts → ℕ → Type 0) (now : ℕ) (space after : List Tuple) (old new : SeatState) (net : NetState) (shown : List Line)
+    (event : Event) (b : ℕ) → event ≡ events.Space b → ServesOldest now old new space after shown old.asked
+    → SeatSteps allows now (event_at event) (record { seat = old; space = space; net = net }) (record { seat = new; space = after; net = net }) shown
+serve_steps allows now space after old new net shown event b is did =
+    subst (λ e. SeatSteps allows now (event_at e) (record { seat = old; space = space; net = net }) (record { seat = new; space = after; net = net }) shown) (sym is)
+    (λ header a most state m small at. (
+      [],
+      unasked header a state m m.asked,
+      subst (λ t. IsAt header a t most (record { seat = old; space = space; net = net }) state m → ServesOldest t old new space after shown old.asked
+          → Leaves header a t most (record { seat = new; space = after; net = net }) net shown state (serves (under header) rows state a m m.asked))
+          (sym at.clock)
+          (λ there served. serves_by space after old new net shown header a most state m small m.asked refl there
+          (subst (ServesOldest state.clock old new space after shown) at.seat.asked served))
+          at did,
+    ))
   where
-    each_last : (P : ℕ → Type 0) (o : Option ℕ) (files : List ℕ) → Each P (with_file o files) → Each P (files ++ with_file o [])
-    each_last P None files all = subst (Each P) (sym (append-nil files)) all
-    each_last P (Some made) files all = each_append P files (made ∷ []) all.1 (all.0, tt)
+    unasked : (header : Header) (a : ℕ) (state : State Row) (m : Seat Row) (ys : List (Request Row))
+        → Answers allows (serves (under header) rows state a m ys).ranked []
+    unasked header a state m [] = tt
+    unasked header a state m (y ∷ ys) = tt
 
-    differ_last : (o : Option ℕ) (files : List ℕ) → Differ (with_file o files) → Differ (files ++ with_file o [])
-    differ_last None files all = subst Differ (sym (append-nil files)) all
-    differ_last (Some made) files all = differ_rotate made files all
+pub postpone_steps : (allows : RankFacts → ℕ → Type 0) (now : ℕ) (space : List Tuple) (old new : SeatState) (net : NetState) (shown : List Line)
+    (event : Event) (b : ℕ) → event ≡ events.Later b → PostponesOldest old new shown old.asked
+    → SeatSteps allows now (event_at event) (record { seat = old; space = space; net = net }) (record { seat = new; space = space; net = net }) shown
+postpone_steps allows now space old new net shown event b is did =
+    subst (λ e. SeatSteps allows now (event_at e) (record { seat = old; space = space; net = net }) (record { seat = new; space = space; net = net }) shown) (sym is)
+    (λ header a most state m small at. (
+      [],
+      unasked a state m m.asked,
+      postpones_by space space old new net shown header a most state m small now m.asked refl at (subst (PostponesOldest old new shown) at.seat.asked did),
+    ))
+  where
+    unasked : (a : ℕ) (state : State Row) (m : Seat Row) (ys : List (Request Row)) → Answers allows (postpones state a m ys).ranked []
+    unasked a state m [] = tt
+    unasked a state m (y ∷ ys) = tt
 
--- what is left as it is
-pub seated_same : (F F' : Files) (n a : ℕ) (m : Agent) (desk : Desk) → F'.clock ≡ F.clock → F'.tree ≡ F.tree → IsSeated F n a m desk → IsSeated F' (suc n) a m desk
-seated_same F F' n a m desk clock tree is =
-    let fewer : m.files ≤ n = is.drawn in
-    record {
-      pending = is.pending;
-      numbers = is.numbers;
-      moments = subst (λ now. Each (λ (r : Reply). r.moment ≤ now) desk.replied) (sym clock) is.moments;
-      incarnation = is.incarnation;
-      drawn = omega arith;
-      old = subst (λ t. Each (IsOld a m) (nodes t)) (sym tree) is.old;
-      own = is.own;
-      absent = subst (λ t. Each (IsAbsent t) (files_of desk.asked)) (sym tree) is.absent;
-      differ = is.differ;
-    }
-
--- the file that the oldest step is to make is one that the agent drew
-pub drawn_first : (F : Files) (n a : ℕ) (m : Agent) (desk : Desk) (x : Ask) (waiting : List Ask) → desk.asked ≡ x ∷ waiting → IsSeated F n a m desk
-    → (file : ℕ) → made_by x.step ≡ Some file → IsDrawn a m file
-drawn_first F n a m desk x waiting asked is =
-    (first_each (IsDrawn a m) (made_by x.step) (files_of waiting) (subst (Each (IsDrawn a m)) (ap files_of asked ∙ files_first x.request x.step waiting) is.own)).0
+-- where a seat is shown, its oldest reply fits
+pub shown_fits : (now : ℕ) (space : List Tuple) (old : SeatState) (net : NetState) → IsShownAt now (record { seat = old; space = space; net = net })
+    → FitsOldest old.agent old.replied
+shown_fits now space old net (header, a, most, state, m, at) =
+    fits_oldest header a old m at.seat old.replied m.replied at.seat.replied at.whole.own

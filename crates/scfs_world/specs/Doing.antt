@@ -1,34 +1,38 @@
-use Rattle.std.specs.Prelude.{◌≡◌, ◌+◌, ◌<◌, ◌≤◌, ℕ, List, [], ◌∷◌, ◌++◌, fold, Some, slice_get, slice_set, All}
+use Rattle.std.specs.Prelude.{◌≡◌, ◌+◌, ◌<◌, ◌≤◌, ℕ, List, [], ◌∷◌, ◌++◌, fold, All}
 use Rattle.std.specs.List.{flat_map}
 use Rattle.scfs_base.specs.Limits.{carried_limit}
 use Rattle.scfs_policy.specs.declared.rank.RankFacts.{RankFacts}
 use Rattle.scfs_schedule.specs.declared.types.Header.{Header}
 use Rattle.scfs_schedule.specs.declared.types.Line.{Line}
+use Rattle.scfs_schedule.specs.declared.types.Line.TheVariants as lines
+use Rattle.scfs_tuples.specs.After.{reply_of, left_after}
+use Rattle.scfs_tuples.specs.declared.types.Tuple.{Tuple}
 use Rattle.scfs_net.specs.Queues.{NetState, net_asked}
-use Rattle.scfs_model.specs.Format.{Setup}
-use Rattle.scfs_model.specs.Requests.{request_line}
-use Rattle.scfs_model.specs.UnitFormat.{under}
-use Rattle.scfs_agent.specs.Reacting.{FitsOutput, Reacts}
+use Rattle.scfs_machine.specs.Format.{Setup}
+use Rattle.scfs_machine.specs.States.{request_line}
+use Rattle.scfs_machine.specs.UnitFormat.{under}
+use Rattle.scfs_agent.specs.Keeping.{FitsOutput}
+use Rattle.scfs_agent.specs.Reacting.{FitsInput, Reacts}
 use Rattle.scfs_agent.specs.State.{AgentState}
 use Rattle.scfs_agent.specs.declared.types.Input.{Input}
+use Rattle.scfs_agent.specs.declared.types.Input.TheVariants as inputs
 use Rattle.scfs_agent.specs.declared.types.Output.{Output}
 use Rattle.scfs_agent.specs.declared.types.Output.TheVariants as outputs
-use Rattle.scfs_agent.specs.declared.work.AskedStep.{AskedStep}
-use Rattle.scfs_world.specs.State.{DeskState, WorldState}
+use Rattle.scfs_world.specs.State.{SeatState}
+use Rattle.scfs_world.specs.Showing.{line_of}
+use Rattle.scfs_world.specs.declared.seat.StepAsked.{StepAsked}
+use Rattle.scfs_world.specs.declared.seat.StepReply.{StepReply}
 
--- What the world does with an agent's outputs.
+-- What is done with an agent's outputs.
 
-abbrev pub step_out : Output → List AskedStep
+-- its steps wait at its seat
+abbrev pub step_out : Output → List StepAsked
 step_out (outputs.Space request step) = (record { request = request; step = step }) ∷ []
 step_out (outputs.Cloud c request body) = []
 step_out (outputs.Line line) = []
 
--- its steps wait at its desk
-abbrev pub steps_out : List Output → List AskedStep
+abbrev pub steps_out : List Output → List StepAsked
 steps_out given = flat_map step_out given
-
-abbrev pub desk_with : DeskState → List Output → DeskState
-desk_with desk given = record desk { asked = desk.asked ++ steps_out given }
 
 -- an answer is a line, and each request to a cloud has one
 abbrev pub line_out : Setup → Output → List Line
@@ -54,29 +58,56 @@ AsksAmong clouds (outputs.Space request step) = Unit {0}
 AsksAmong clouds (outputs.Cloud c request body) = c < clouds
 AsksAmong clouds (outputs.Line line) = Unit {0}
 
--- an agent was given an input: how it was and is, what stood at its desk, and what it put out
-pub record IsGiven (allows : RankFacts → ℕ → Type 0) (a : ℕ) (input : Input) (old : WorldState) : Type 0 where
-  pub was : AgentState
-  pub is : AgentState
-  pub desk : DeskState
-  pub given : List Output
-  pub there : slice_get old.agents a ≡ Some was
-  pub its : slice_get old.desks a ≡ Some desk
-  pub reacts : Reacts allows old.clock input was is given
-  pub fits : All (FitsOutput was.f) given
+-- an agent was given an input: how it was and is, and what it put out
+pub record IsGiven (allows : RankFacts → ℕ → Type 0) (now : ℕ) (input : Input) (was is : AgentState) (given : List Output) : Type 0 where
+  pub reacts : Reacts allows now input was is given
+  pub fits : All (FitsOutput was.header.f) given
+  pub header : is.header ≡ was.header
   pub no : is.no ≡ was.no
-  pub f : is.f ≡ was.f
   pub inputs : is.inputs ≡ was.inputs + 1
 
--- and what it put out was done
-pub record IsDone (allows : RankFacts → ℕ → Type 0) (a : ℕ) (input : Input) (before : List Line) (old new : WorldState) (shown : List Line) : Type 0 where
-  pub it : IsGiven allows a input old
-  pub after :
-      new ≡ record old { agents = slice_set old.agents a it.is; desks = slice_set old.desks a (desk_with it.desk it.given); net = net_with old.net it.given }
-  pub lines : (header : Header) → shown ≡ before ++ lines_out (under header) it.given
-  pub carried : new.net.carried ≤ carried_limit
+-- and what it put out was done; the lines stand behind these
+pub record IsDone (allows : RankFacts → ℕ → Type 0) (now : ℕ) (input : Input) (before : List Line) (old new : SeatState) (net after : NetState) (shown : List Line) : Type 0 where
+  pub given : List Output
+  pub it : IsGiven allows now input old.agent new.agent given
+  pub asked : new.asked ≡ old.asked ++ steps_out given
+  pub replied : new.replied ≡ old.replied
+  pub sent : after ≡ net_with net given
+  pub lines : (header : Header) → shown ≡ before ++ lines_out (under header) given
+  pub carried : after.carried ≤ carried_limit
 
 -- or would carry too many bytes
-pub record IsTooMuch (allows : RankFacts → ℕ → Type 0) (a : ℕ) (input : Input) (old : WorldState) : Type 0 where
-  pub it : IsGiven allows a input old
-  pub more : carried_limit < (net_with old.net it.given).carried
+pub record IsTooMuch (allows : RankFacts → ℕ → Type 0) (now : ℕ) (input : Input) (old : SeatState) (net : NetState) : Type 0 where
+  pub is : AgentState
+  pub given : List Output
+  pub it : IsGiven allows now input old.agent is given
+  pub more : carried_limit < (net_with net given).carried
+
+-- the oldest reply that waits is that of what a step came to
+abbrev pub FitsOldest : AgentState → List StepReply → Type 0
+FitsOldest a [] = Unit {0}
+FitsOldest a (oldest ∷ rest) = FitsInput a (inputs.Space oldest.request oldest.reply)
+
+-- the agent was told the oldest of these replies, or there is none
+abbrev pub TellsOldest : (allows : RankFacts → ℕ → Type 0) → (now : ℕ) → (old new : SeatState) → (net after : NetState) → List Line → List StepReply → Type 0
+TellsOldest allows now old new net after shown [] = (new ≡ old) × (after ≡ net) × (shown ≡ lines.Skip ∷ [])
+TellsOldest allows now old new net after shown (oldest ∷ rest) =
+    IsDone allows now (inputs.Space oldest.request oldest.reply) [] (record old { replied = rest }) new net after shown
+
+abbrev pub TellsTooMuch : (allows : RankFacts → ℕ → Type 0) → (now : ℕ) → SeatState → NetState → List StepReply → Type 0
+TellsTooMuch allows now old net [] = ⊥
+TellsTooMuch allows now old net (oldest ∷ rest) =
+    IsTooMuch allows now (inputs.Space oldest.request oldest.reply) (record old { replied = rest }) net
+
+-- the space served the oldest of these steps, or there is none
+abbrev pub ServesOldest : (now : ℕ) → (old new : SeatState) → (space after : List Tuple) → List Line → List StepAsked → Type 0
+ServesOldest now old new space after shown [] = (new ≡ old) × (after ≡ space) × (shown ≡ lines.Skip ∷ [])
+ServesOldest now old new space after shown (oldest ∷ rest) =
+    let reply = reply_of space now oldest.step in
+    (new ≡ record old { asked = rest; replied = old.replied ++ (record { request = oldest.request; reply = reply }) ∷ [] })
+    × (after ≡ left_after space now oldest.step) × (shown ≡ line_of oldest.request oldest.step reply ∷ [])
+
+-- the oldest of these steps went to the back, or there is none
+abbrev pub PostponesOldest : (old new : SeatState) → List Line → List StepAsked → Type 0
+PostponesOldest old new shown [] = (new ≡ old) × (shown ≡ lines.Skip ∷ [])
+PostponesOldest old new shown (oldest ∷ rest) = (new ≡ record old { asked = rest ++ oldest ∷ [] }) × (shown ≡ [])

@@ -17,9 +17,6 @@ use Rattle.scfs_tuples.specs.declared.types.StepResult.TheVariants as results
 use Rattle.scfs_tuples.specs.declared.types.Template.{Template}
 use Rattle.scfs_net.specs.declared.messages.Moved.{Moved}
 use Rattle.scfs_net.specs.declared.messages.Moved.TheVariants as moved
-use Rattle.scfs_model.specs.Format.{Setup}
-use Rattle.scfs_model.specs.History.{Message, Asked, Answered}
-use Rattle.scfs_model.specs.Files.{sum_of}
 use Rattle.scfs_anchor.specs.Fields.{number_at}
 use Rattle.scfs_anchor.specs.Replies.{refusal_in}
 
@@ -29,12 +26,6 @@ use Rattle.scfs_anchor.specs.Replies.{refusal_in}
 abbrev pub moved_lines : Moved → List Line
 moved_lines moved.Done = []
 moved_lines moved.Skipped = lines.Skip ∷ []
-
--- the lines of what a cloud answered
-abbrev pub answer_lines : Setup → (c : ℕ) → Option Message → List Line
-answer_lines s c None = lines.Skip ∷ []
-answer_lines s c (Some (Asked request)) = []
-answer_lines s c (Some (Answered request answer)) = lines.Did c request (sum_of s answer) ∷ []
 
 -- the number that a template puts at a place
 abbrev pub number_put : Option Give → ℕ

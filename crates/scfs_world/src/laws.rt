@@ -1,27 +1,15 @@
 //! What holds of every history; the functions only carry the laws.
 
-ghost use Rattle.scfs_world.specs.Laws.{NoClashBefore, ReadsAreHeld, RunsWithoutClash, SoundWithoutClash};
+ghost use Rattle.scfs_world.specs.Happening.{StandingAreShown};
+ghost use Rattle.scfs_world.specs.Whole.{StatesAreWhole};
 
-use scfs_model::layers_agree;
-
-/// Of fewer blocks no two clash: a history without its newest event has no further blocks.
-pub fn no_clash_before()
-    ensures { NoClashBefore }
+/// What a history of at most 2^32 events leaves is whole: no step that waits makes a file of an id that is there, and each reply that
+/// waits is that of the step which its agent asked under its number.
+pub fn states_are_whole()
+    ensures { StatesAreWhole }
 {}
 
-/// Where no two different blocks of a history share a digest, each open got from the clouds what was closed.
-pub fn sound_without_clash()
-    ensures { SoundWithoutClash }
-{}
-
-/// Where no two different blocks of a history share a digest, what happens is a run of the file map.
-pub fn runs_without_clash()
-    ensures { RunsWithoutClash }
-{
-    layers_agree();
-}
-
-/// Whatever the clouds answer, each line of bytes read shows those that its session holds.
-pub fn reads_are_held()
-    ensures { ReadsAreHeld }
+/// A world that stands for a history of at most 2^32 events which happened shows a whole state, and so can be given an event.
+pub fn standing_worlds_are_shown()
+    ensures { StandingAreShown }
 {}

@@ -1,17 +1,21 @@
-//! The world of one run: its agents, its space, the queues between them, and its clouds. One event is one atomic step of one of
-//! them; nothing else has state.
+//! The world of one run: its agents at their seats, its space, and its clouds. One event is one step of the machine; nothing else has
+//! state.
 #![tactic(auto)]
 
-mod desk;
+mod built;
+mod clouds;
 mod doing;
 mod fault;
 mod laws;
 mod ranges;
+mod seat;
 mod served;
 mod shown;
 mod world;
 
+pub use built::{is_built, is_built_header};
 pub use fault::{StepFault, WorldEnd};
-pub use laws::{no_clash_before, reads_are_held, runs_without_clash, sound_without_clash};
+pub use laws::{standing_worlds_are_shown, states_are_whole};
 pub use ranges::brings_bytes;
+pub use seat::{Seat, StepAsked, StepReply};
 pub use world::{Stepped, World};

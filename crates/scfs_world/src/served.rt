@@ -1,7 +1,6 @@
 ghost use Rattle.std.specs.Prelude.{◌≡◌, ◌+◌, ◌^◌, ◌<◌, slice_get};
-ghost use Rattle.scfs_anchor.specs.Fields.{number_at};
 ghost use Rattle.scfs_tuples.specs.Steps.{IsLife, IsStep, Lives};
-ghost use Rattle.scfs_world.specs.Showing.{committed_line, done_line, file_shown, life_of, line_of, looked_line, number_put, put_line};
+ghost use Rattle.scfs_world.specs.Showing.{committed_line, done_line, file_shown, line_of, looked_line, number_put, put_line};
 
 use scfs_anchor::refusal;
 use scfs_base::{FileId, RequestNo};

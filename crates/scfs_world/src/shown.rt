@@ -1,11 +1,11 @@
 ghost use Rattle.std.specs.Prelude.{◌≡◌, [], ◌∷◌, IfOk};
-ghost use Rattle.scfs_model.specs.Files.{sum_of};
-ghost use Rattle.scfs_model.specs.Requests.{request_line};
-ghost use Rattle.scfs_model.specs.UnitFormat.{under};
+ghost use Rattle.scfs_machine.specs.Clouds.{did_message};
+ghost use Rattle.scfs_machine.specs.Layers.{Row};
+ghost use Rattle.scfs_machine.specs.States.{State, answers_by, request_line, sum_of};
+ghost use Rattle.scfs_machine.specs.UnitFormat.{under};
 ghost use Rattle.scfs_schedule.specs.declared.types.Header.{Header};
 ghost use Rattle.scfs_schedule.specs.declared.types.Line.TheVariants as lines;
-ghost use Rattle.scfs_world.specs.Clouds.{did_message};
-ghost use Rattle.scfs_world.specs.Showing.{answer_lines, moved_lines};
+ghost use Rattle.scfs_world.specs.Showing.{moved_lines};
 
 use scfs_base::{CloudAnswer, CloudRequest, Memory, RequestNo, Sequence};
 use scfs_digest::plain_digest;
@@ -70,7 +70,8 @@ pub fn moved_lines(alloc: Global, moved: Moved) -> Result<Sequence<Line>, Memory
 
 /// The lines of what a cloud answered.
 pub fn did_lines(alloc: Global, cloud: u8, did: Option<Did>) -> Result<Sequence<Line>, Memory>
-    ensures { IfOk result (λ shown. (header : Header) → shown ≡ answer_lines (under header) cloud (did_message did)) }
+    ensures { IfOk result (λ shown. (header : Header) (state : State Row) →
+        shown ≡ (answers_by (under header) state cloud (did_message did)).lines) }
 {
     match did {
         None => one_line(alloc, Line::Skip),

@@ -1,35 +1,31 @@
-ghost use Rattle.std.specs.Prelude.{◌≡◌, ◌+◌, ◌*◌, ◌<◌, ◌≢◌, ◌↔◌, [], length, slice_get, IfErr, IfOk, IfSome, IsTrue, OnOk, not, true};
+ghost use Rattle.std.specs.Prelude.{◌≡◌, ◌≢◌, ◌+◌, ◌*◌, ◌<◌, ◌↔◌, [], length, true, slice_get, IfErr, IfOk, IfSome, IsTrue, OnOk, is_some};
 ghost use Rattle.std.specs.Option.{option_copied, option_map};
-ghost use Rattle.scfs_model.specs.Built.{is_built, is_built_call, is_built_header};
 ghost use Rattle.scfs_net.specs.Queues.{cloud_at};
 ghost use Rattle.scfs_policy.specs.Rank.{IsRankRule};
 ghost use Rattle.scfs_schedule.specs.Grammar.{IsEvent, IsHeader};
 ghost use Rattle.scfs_schedule.specs.declared.types.Event.TheVariants as events;
-ghost use Rattle.scfs_agent.specs.Keeping.{is_idle};
-ghost use Rattle.scfs_agent.specs.Reacting.{FitsInput};
-ghost use Rattle.scfs_world.specs.Doing.{IsDone, IsTooMuch};
-ghost use Rattle.scfs_world.specs.Happening.{PlaysOn};
-ghost use Rattle.scfs_world.specs.Standing.{IsTooLarge, Stands, Steps};
-ghost use Rattle.scfs_world.specs.State.{counted, desk_at};
-ghost use Rattle.scfs_world.specs.Worlds.{IsTooLargeUnasked, IsWorld, Keeps, StepsUnasked};
+ghost use Rattle.scfs_world.specs.Built.{is_built, is_built_header};
+ghost use Rattle.scfs_world.specs.Clouds.{Answers, Moves};
+ghost use Rattle.scfs_world.specs.Happening.{PlaysOn, Stands};
+ghost use Rattle.scfs_world.specs.Seating.{IsAtSeat};
+ghost use Rattle.scfs_world.specs.State.{counted};
+ghost use Rattle.scfs_world.specs.Stepping.{IsShown, IsTooLarge, IsTooLargeAlone, IsWorld, Keeps, Steps, StepsAlone};
 ghost use Rattle.scfs_world.specs.declared.fault.StepFault.TheVariants as StepFault;
 
-use crate::desk::{Desk, StepReply};
-use crate::doing::do_outputs;
+use crate::clouds::{answer, cloud_of, shift};
 use crate::ranges::brings_bytes;
-use crate::served::line_of;
-use crate::shown::{did_lines, moved_lines, one_line, sum_of};
+use crate::seat::Seat;
+use crate::shown::{did_lines, moved_lines, one_line};
 use crate::{StepFault, WorldEnd};
-use scfs_agent::{Agent, Input};
-use scfs_base::{CloudAnswer, CloudRequest, Memory, Sequence};
+use scfs_base::{CloudRequest, Memory, Sequence};
 use scfs_net::Net;
 use scfs_policy::{RankFacts, RankRule};
-use scfs_schedule::{Call, Event, Header, Line};
+use scfs_schedule::{Event, Header, Line};
 use scfs_tuples::Space;
 use std::alloc::Global;
 use std::marker::Model;
 
-/// The agents of a header, the space and the clouds between them, the clock, and how many events there were.
+/// The agents of a header at their seats, the space and the clouds between them, the clock, and how many events there were.
 #[derive(Drop)]
 pub struct World {
     alloc: Global,
@@ -37,27 +33,21 @@ pub struct World {
     clock: u64,
     events: u64,
     space: Space,
-    agents: Vec<Agent>,
-    desks: Vec<Desk>,
+    seats: Vec<Seat>,
     net: Net,
 }
 
 impl Model for World {
     ghost use Rattle.scfs_world.specs.State.{WorldState};
-    ghost use Rattle.std.specs.Coded.{codes};
-    ghost use Rattle.scfs_quorum_write.specs.Acks.{acks_code};
 
     ghost Value = { WorldState };
-
-    ghost coded = { Prim.hlevel (codes, acks_code) };
 
     ghost view = { λ w. record {
       header = w.header;
       clock = w.clock;
       events = w.events;
       space = w.space;
-      agents = w.agents.items;
-      desks = w.desks.items;
+      seats = w.seats.items;
       net = w.net;
     } };
 }
@@ -69,26 +59,6 @@ pub struct Stepped {
     pub lines: Sequence<Line>,
 }
 
-/// A call that is built, again.
-fn copy_call(alloc: Global, call: &Call) -> Result<Call, Memory>
-    requires { is_built_call call.now ≡ true }
-    ensures { IfOk result (λ copied. copied ≡ call.now) }
-{
-    match call {
-        Call::Create(path) => Ok(Call::Create(path.copy(alloc)?)),
-        Call::Stat(path) => Ok(Call::Stat(path.copy(alloc)?)),
-        Call::OpenR(path) => Ok(Call::OpenR(path.copy(alloc)?)),
-        Call::OpenW(path) => Ok(Call::OpenW(path.copy(alloc)?)),
-        Call::Read(session, offset, count) => Ok(Call::Read(*session, *offset, *count)),
-        Call::Write(session, offset, bytes) => {
-            Ok(Call::Write(*session, *offset, bytes.copy(alloc)?))
-        }
-        Call::Truncate(session, size) => Ok(Call::Truncate(*session, *size)),
-        Call::Close(session) => Ok(Call::Close(*session)),
-        _ => unreachable!(),
-    }
-}
-
 impl World {
     /// The world of a header before its first event: an empty space, clouds that hold nothing, and agents that were given nothing.
     pub fn new(alloc: Global, header: Header) -> Result<World, Memory>
@@ -96,14 +66,10 @@ impl World {
         requires built { is_built_header header ≡ true }
         ensures stands { IfOk result (λ world. Stands world header []) }
         ensures world { IfOk result (λ world. IsWorld world) }
-        ensures header { IfOk result (λ world. world.header ≡ header) }
-        ensures events { IfOk result (λ world. world.events ≡ 0) }
     {
-        let mut agents = Vec::new(alloc);
-        let mut desks = Vec::new(alloc);
+        let mut seats = Vec::new(alloc);
         for no in 0..header.agents.len() {
-            agents.push(Agent::new(alloc, no as u8, &header)?)?;
-            desks.push(Desk::new(alloc))?;
+            seats.push(Seat::new(alloc, no as u8, &header)?)?;
         }
         let net = Net::new(alloc, header.f)?;
         Ok(World {
@@ -112,8 +78,7 @@ impl World {
             clock: 0,
             events: 0,
             space: Space::new(alloc),
-            agents,
-            desks,
+            seats,
             net,
         })
     }
@@ -125,11 +90,12 @@ impl World {
         rank: &RankRule<R>,
     ) -> Result<Stepped, WorldEnd>
         requires world { IsWorld self }
+        requires shown { IsShown self }
         requires event { IsEvent self.header event.now }
         requires built { is_built event.now ≡ true }
         requires room { self.events < 1000000 }
         requires rank { IsRankRule (R.pre rank.now) }
-        ensures stands { IfOk result (λ stepped. Steps (R.post rank.now) self stepped.world event.now stepped.lines) }
+        ensures steps { IfOk result (λ stepped. Steps (R.post rank.now) self stepped.world event.now stepped.lines) }
         ensures plays { IfOk result (λ stepped. PlaysOn (R.post rank.now) self stepped.world event.now stepped.lines) }
         ensures too_large { IfErr result (λ end. end.fault ≡ StepFault.TooLarge → IsTooLarge (R.post rank.now) self event.now) }
         ensures world { IfOk result (λ stepped. IsWorld stepped.world) }
@@ -146,18 +112,19 @@ impl World {
         }
     }
 
-    /// The event, and its lines. What it brings are bytes by its type, as a history that is played on needs.
+    /// The event, and its lines; a history that was played is played on.
     fn play<R: Fn(RankFacts) -> u64>(
         &mut self,
         event: &Event,
         rank: &RankRule<R>,
     ) -> Result<Sequence<Line>, StepFault>
         requires world { IsWorld self.old }
+        requires shown { IsShown self.old }
         requires event { IsEvent self.old.header event.now }
         requires built { is_built event.now ≡ true }
         requires room { self.old.events < 1000000 }
         requires rank { IsRankRule (R.pre rank.now) }
-        ensures stands { IfOk result (λ lines. Steps (R.post rank.now) self.old (counted self.new) event.now lines) }
+        ensures steps { IfOk result (λ lines. Steps (R.post rank.now) self.old (counted self.new) event.now lines) }
         ensures plays { IfOk result (λ lines. PlaysOn (R.post rank.now) self.old (counted self.new) event.now lines) }
         ensures too_large { IfErr result (λ fault. fault ≡ StepFault.TooLarge → IsTooLarge (R.post rank.now) self.old event.now) }
         ensures kept { OnOk result (Keeps self.old self.new) }
@@ -167,286 +134,111 @@ impl World {
         Ok(lines)
     }
 
-    /// What the event does to its actor, and its lines.
+    /// What the event does where it is, and its lines.
     fn on<R: Fn(RankFacts) -> u64>(
         &mut self,
         event: &Event,
         rank: &RankRule<R>,
     ) -> Result<Sequence<Line>, StepFault>
         requires world { IsWorld self.old }
+        requires shown { IsShown self.old }
         requires event { IsEvent self.old.header event.now }
         requires built { is_built event.now ≡ true }
         requires room { self.old.events < 1000000 }
         requires rank { IsRankRule (R.pre rank.now) }
-        ensures stands { IfOk result (λ lines. Steps (R.post rank.now) self.old (counted self.new) event.now lines) }
+        ensures steps { IfOk result (λ lines. Steps (R.post rank.now) self.old (counted self.new) event.now lines) }
         ensures too_large { IfErr result (λ fault. fault ≡ StepFault.TooLarge → IsTooLarge (R.post rank.now) self.old event.now) }
         ensures kept { OnOk result (Keeps self.old self.new) }
     {
         match event {
-            Event::Call(a, call) => self.on_call(*a, call, rank),
-            Event::Space(a) => Ok(self.on_space(*a)?),
-            Event::Later(a) => Ok(self.on_later(*a)?),
-            Event::Told(a) => self.on_told(*a, rank),
-            Event::Serve(c) => self.on_serve(*c),
-            Event::Hide(c) => self.on_hide(*c),
-            Event::Fail(c) => self.on_fail(*c),
-            Event::Say(c, answer) => self.on_say(*c, answer),
-            Event::Give(c) => self.on_give(*c, rank),
-            Event::Lose(c) => Ok(self.on_lose(*c)?),
-            Event::Drop(c) => Ok(self.on_drop(*c)?),
-            Event::Defer(c) => Ok(self.on_defer(*c)?),
-            Event::Swap(c) => Ok(self.on_swap(*c)?),
-            Event::Again(c) => self.on_again(*c),
-            Event::Twice(c) => self.on_twice(*c),
-            Event::Turn(a) => self.on_turn(*a, rank),
-            _ => unreachable!(),
+            Event::Call(a, _)
+            | Event::Turn(a)
+            | Event::Space(a)
+            | Event::Later(a)
+            | Event::Told(a) => self.at_seat(*a, event, rank),
+            Event::Give(c) => self.give(*c, rank),
+            Event::Serve(_) | Event::Hide(_) | Event::Fail(_) | Event::Say(_, _) => {
+                self.answered(event)
+            }
+            _ => self.moved(event),
         }
     }
 
-    /// Gives an agent its input, and does what it puts out; the lines come behind these.
-    fn give_input<R: Fn(RankFacts) -> u64>(
+    /// An event at the seat of an agent.
+    fn at_seat<R: Fn(RankFacts) -> u64>(
         &mut self,
         a: u8,
-        input: Input,
-        before: Sequence<Line>,
+        event: &Event,
         rank: &RankRule<R>,
     ) -> Result<Sequence<Line>, StepFault>
         requires world { IsWorld self.old }
-        requires room { self.old.events < 1000000 }
+        requires shown { IsShown self.old }
+        requires event { IsAtSeat a event.now }
         requires agent { a < length self.old.header.agents }
-        requires input { FitsInput self.old.header.f input }
+        requires built { is_built event.now ≡ true }
+        requires room { self.old.events < 1000000 }
         requires rank { IsRankRule (R.pre rank.now) }
-        ensures done { IfOk result (λ lines. IsDone (R.post rank.now) a input before self.old self.new lines) }
-        ensures too_large { IfErr result (λ fault. fault ≡ StepFault.TooLarge → IsTooMuch (R.post rank.now) a input self.old) }
+        ensures steps { IfOk result (λ lines. Steps (R.post rank.now) self.old (counted self.new) event.now lines) }
+        ensures too_large { IfErr result (λ fault. fault ≡ StepFault.TooLarge → IsTooLarge (R.post rank.now) self.old event.now) }
         ensures kept { OnOk result (Keeps self.old self.new) }
     {
-        let outputs = self.agents[usize::from(a)].on(self.clock, input, rank)?;
-        let mut lines = before;
-        do_outputs(
+        let seat = &mut self.seats[usize::from(a)];
+        seat.on(
             self.alloc,
-            outputs,
-            &mut self.desks[usize::from(a)],
+            self.clock,
+            event,
+            &mut self.space,
             &mut self.net,
-            &mut lines,
-        )?;
-        Ok(lines)
+            rank,
+        )
     }
 
-    fn on_call<R: Fn(RankFacts) -> u64>(
-        &mut self,
-        a: u8,
-        call: &Call,
-        rank: &RankRule<R>,
-    ) -> Result<Sequence<Line>, StepFault>
-        requires world { IsWorld self.old }
-        requires room { self.old.events < 1000000 }
-        requires agent { a < length self.old.header.agents }
-        requires built { is_built_call call.now ≡ true }
-        requires rank { IsRankRule (R.pre rank.now) }
-        ensures stands { IfOk result (λ lines. Steps (R.post rank.now) self.old (counted self.new) (events.Call a call.now) lines) }
-        ensures too_large { IfErr result (λ fault. fault ≡ StepFault.TooLarge → IsTooLarge (R.post rank.now) self.old (events.Call a call.now)) }
-        ensures kept { OnOk result (Keeps self.old self.new) }
-    {
-        let call = copy_call(self.alloc, call)?;
-        self.give_input(a, Input::Call(call), Sequence::new(self.alloc), rank)
-    }
-
-    fn on_turn<R: Fn(RankFacts) -> u64>(
-        &mut self,
-        a: u8,
-        rank: &RankRule<R>,
-    ) -> Result<Sequence<Line>, StepFault>
-        requires world { IsWorld self.old }
-        requires room { self.old.events < 1000000 }
-        requires agent { a < length self.old.header.agents }
-        requires rank { IsRankRule (R.pre rank.now) }
-        ensures stands { IfOk result (λ lines. Steps (R.post rank.now) self.old (counted self.new) (events.Turn a) lines) }
-        ensures too_large { IfErr result (λ fault. fault ≡ StepFault.TooLarge → IsTooLarge (R.post rank.now) self.old (events.Turn a)) }
-        ensures kept { OnOk result (Keeps self.old self.new) }
-    {
-        self.give_input(a, Input::Turn, Sequence::new(self.alloc), rank)
-    }
-
-    fn on_told<R: Fn(RankFacts) -> u64>(
-        &mut self,
-        a: u8,
-        rank: &RankRule<R>,
-    ) -> Result<Sequence<Line>, StepFault>
-        requires world { IsWorld self.old }
-        requires room { self.old.events < 1000000 }
-        requires agent { a < length self.old.header.agents }
-        requires rank { IsRankRule (R.pre rank.now) }
-        ensures stands { IfOk result (λ lines. Steps (R.post rank.now) self.old (counted self.new) (events.Told a) lines) }
-        ensures too_large { IfErr result (λ fault. fault ≡ StepFault.TooLarge → IsTooLarge (R.post rank.now) self.old (events.Told a)) }
-        ensures kept { OnOk result (Keeps self.old self.new) }
-    {
-        let Some(oldest) = self.desks[usize::from(a)].take_reply() else {
-            return Ok(one_line(self.alloc, Line::Skip)?);
-        };
-        let input = Input::Space(oldest.request, oldest.reply);
-        self.give_input(a, input, Sequence::new(self.alloc), rank)
-    }
-
-    fn on_give<R: Fn(RankFacts) -> u64>(
+    /// A cloud's oldest answer is given to the agent that asked.
+    fn give<R: Fn(RankFacts) -> u64>(
         &mut self,
         c: u8,
         rank: &RankRule<R>,
     ) -> Result<Sequence<Line>, StepFault>
         requires world { IsWorld self.old }
+        requires shown { IsShown self.old }
         requires room { self.old.events < 1000000 }
         requires cloud { c < 3 * self.old.header.f + 1 }
         requires rank { IsRankRule (R.pre rank.now) }
-        ensures stands { IfOk result (λ lines. Steps (R.post rank.now) self.old (counted self.new) (events.Give c) lines) }
+        ensures steps { IfOk result (λ lines. Steps (R.post rank.now) self.old (counted self.new) (events.Give c) lines) }
         ensures too_large { IfErr result (λ fault. fault ≡ StepFault.TooLarge → IsTooLarge (R.post rank.now) self.old (events.Give c)) }
         ensures kept { OnOk result (Keeps self.old self.new) }
     {
         let Some(given) = self.net.give(c) else {
             return Ok(one_line(self.alloc, Line::Skip)?);
         };
-        let sum = sum_of(&given.answer);
-        let lines = one_line(self.alloc, Line::Gave(c, given.request, sum))?;
-        let a = given.request.agent;
-        if usize::from(a) >= self.agents.len() {
-            return Ok(lines);
+        let a = usize::from(given.request.agent);
+        if a >= self.seats.len() {
+            return Ok(Sequence::new(self.alloc));
         }
-        let input = Input::Cloud(c, given.request, given.answer);
-        self.give_input(a, input, lines, rank)
+        self.seats[a].hear(self.alloc, self.clock, c, given, &mut self.net, rank)
     }
 
-    fn on_space(&mut self, a: u8) -> Result<Sequence<Line>, Memory>
+    /// A cloud answers its oldest request.
+    fn answered(&mut self, event: &Event) -> Result<Sequence<Line>, StepFault>
         requires world { IsWorld self.old }
-        requires room { self.old.events < 1000000 }
-        requires agent { a < length self.old.header.agents }
-        ensures stands { IfOk result (λ lines. StepsUnasked self.old (counted self.new) (events.Space a) lines) }
+        requires event { Answers (length self.old.net.clouds) event.now }
+        ensures steps { IfOk result (λ lines. StepsAlone self.old (counted self.new) event.now lines) }
+        ensures too_large { IfErr result (λ fault. fault ≡ StepFault.TooLarge → IsTooLargeAlone self.old event.now) }
         ensures kept { OnOk result (Keeps self.old self.new) }
     {
-        let Some(oldest) = self.desks[usize::from(a)].take_step() else {
-            return Ok(one_line(self.alloc, Line::Skip)?);
-        };
-        let reply = self.space.act(self.clock, &oldest.step)?;
-        let line = line_of(oldest.request, &oldest.step, &reply);
-        let replied = StepReply {
-            request: oldest.request,
-            reply,
-        };
-        self.desks[usize::from(a)].reply(replied)?;
-        Ok(one_line(self.alloc, line)?)
+        let did = answer(self.alloc, &mut self.net, event)?;
+        Ok(did_lines(self.alloc, cloud_of(event), did)?)
     }
 
-    fn on_later(&mut self, a: u8) -> Result<Sequence<Line>, Memory>
+    /// A message of a cloud is lost, moved to the back or repeated.
+    fn moved(&mut self, event: &Event) -> Result<Sequence<Line>, StepFault>
         requires world { IsWorld self.old }
-        requires agent { a < length self.old.header.agents }
-        ensures stands { IfOk result (λ lines. StepsUnasked self.old (counted self.new) (events.Later a) lines) }
+        requires event { Moves (length self.old.net.clouds) event.now }
+        ensures steps { IfOk result (λ lines. StepsAlone self.old (counted self.new) event.now lines) }
+        ensures too_large { IfErr result (λ fault. fault ≡ StepFault.TooLarge → IsTooLargeAlone self.old event.now) }
         ensures kept { OnOk result (Keeps self.old self.new) }
     {
-        let moved = self.desks[usize::from(a)].postpone();
-        Ok(moved_lines(self.alloc, moved)?)
-    }
-
-    fn on_serve(&mut self, c: u8) -> Result<Sequence<Line>, StepFault>
-        requires world { IsWorld self.old }
-        requires cloud { c < 3 * self.old.header.f + 1 }
-        ensures stands { IfOk result (λ lines. StepsUnasked self.old (counted self.new) (events.Serve c) lines) }
-        ensures too_large { IfErr result (λ fault. fault ≡ StepFault.TooLarge → IsTooLargeUnasked self.old (events.Serve c)) }
-        ensures kept { OnOk result (Keeps self.old self.new) }
-    {
-        let did = self.net.serve(c)?;
-        Ok(did_lines(self.alloc, c, did)?)
-    }
-
-    fn on_hide(&mut self, c: u8) -> Result<Sequence<Line>, StepFault>
-        requires world { IsWorld self.old }
-        requires cloud { c < 3 * self.old.header.f + 1 }
-        ensures stands { IfOk result (λ lines. StepsUnasked self.old (counted self.new) (events.Hide c) lines) }
-        ensures too_large { IfErr result (λ fault. fault ≡ StepFault.TooLarge → IsTooLargeUnasked self.old (events.Hide c)) }
-        ensures kept { OnOk result (Keeps self.old self.new) }
-    {
-        let did = self.net.hide(c)?;
-        Ok(did_lines(self.alloc, c, did)?)
-    }
-
-    fn on_fail(&mut self, c: u8) -> Result<Sequence<Line>, StepFault>
-        requires world { IsWorld self.old }
-        requires cloud { c < 3 * self.old.header.f + 1 }
-        ensures stands { IfOk result (λ lines. StepsUnasked self.old (counted self.new) (events.Fail c) lines) }
-        ensures too_large { IfErr result (λ fault. fault ≡ StepFault.TooLarge → IsTooLargeUnasked self.old (events.Fail c)) }
-        ensures kept { OnOk result (Keeps self.old self.new) }
-    {
-        let did = self.net.fail(c)?;
-        Ok(did_lines(self.alloc, c, did)?)
-    }
-
-    fn on_say(&mut self, c: u8, answer: &CloudAnswer) -> Result<Sequence<Line>, StepFault>
-        requires world { IsWorld self.old }
-        requires cloud { c < 3 * self.old.header.f + 1 }
-        ensures stands { IfOk result (λ lines. StepsUnasked self.old (counted self.new) (events.Say c answer.now) lines) }
-        ensures too_large { IfErr result (λ fault. fault ≡ StepFault.TooLarge → IsTooLargeUnasked self.old (events.Say c answer.now)) }
-        ensures kept { OnOk result (Keeps self.old self.new) }
-    {
-        let answer = answer.copy(self.alloc)?;
-        let did = self.net.say(c, answer)?;
-        Ok(did_lines(self.alloc, c, did)?)
-    }
-
-    fn on_again(&mut self, c: u8) -> Result<Sequence<Line>, StepFault>
-        requires world { IsWorld self.old }
-        requires cloud { c < 3 * self.old.header.f + 1 }
-        ensures stands { IfOk result (λ lines. StepsUnasked self.old (counted self.new) (events.Again c) lines) }
-        ensures too_large { IfErr result (λ fault. fault ≡ StepFault.TooLarge → IsTooLargeUnasked self.old (events.Again c)) }
-        ensures kept { OnOk result (Keeps self.old self.new) }
-    {
-        let moved = self.net.again(c)?;
-        Ok(moved_lines(self.alloc, moved)?)
-    }
-
-    fn on_twice(&mut self, c: u8) -> Result<Sequence<Line>, StepFault>
-        requires world { IsWorld self.old }
-        requires cloud { c < 3 * self.old.header.f + 1 }
-        ensures stands { IfOk result (λ lines. StepsUnasked self.old (counted self.new) (events.Twice c) lines) }
-        ensures too_large { IfErr result (λ fault. fault ≡ StepFault.TooLarge → IsTooLargeUnasked self.old (events.Twice c)) }
-        ensures kept { OnOk result (Keeps self.old self.new) }
-    {
-        let moved = self.net.twice(c)?;
-        Ok(moved_lines(self.alloc, moved)?)
-    }
-
-    fn on_lose(&mut self, c: u8) -> Result<Sequence<Line>, Memory>
-        requires world { IsWorld self.old }
-        requires cloud { c < 3 * self.old.header.f + 1 }
-        ensures stands { IfOk result (λ lines. StepsUnasked self.old (counted self.new) (events.Lose c) lines) }
-        ensures kept { OnOk result (Keeps self.old self.new) }
-    {
-        let moved = self.net.lose(c);
-        Ok(moved_lines(self.alloc, moved)?)
-    }
-
-    fn on_drop(&mut self, c: u8) -> Result<Sequence<Line>, Memory>
-        requires world { IsWorld self.old }
-        requires cloud { c < 3 * self.old.header.f + 1 }
-        ensures stands { IfOk result (λ lines. StepsUnasked self.old (counted self.new) (events.Drop c) lines) }
-        ensures kept { OnOk result (Keeps self.old self.new) }
-    {
-        let moved = self.net.drop_reply(c);
-        Ok(moved_lines(self.alloc, moved)?)
-    }
-
-    fn on_defer(&mut self, c: u8) -> Result<Sequence<Line>, Memory>
-        requires world { IsWorld self.old }
-        requires cloud { c < 3 * self.old.header.f + 1 }
-        ensures stands { IfOk result (λ lines. StepsUnasked self.old (counted self.new) (events.Defer c) lines) }
-        ensures kept { OnOk result (Keeps self.old self.new) }
-    {
-        let moved = self.net.defer(c);
-        Ok(moved_lines(self.alloc, moved)?)
-    }
-
-    fn on_swap(&mut self, c: u8) -> Result<Sequence<Line>, Memory>
-        requires world { IsWorld self.old }
-        requires cloud { c < 3 * self.old.header.f + 1 }
-        ensures stands { IfOk result (λ lines. StepsUnasked self.old (counted self.new) (events.Swap c) lines) }
-        ensures kept { OnOk result (Keeps self.old self.new) }
-    {
-        let moved = self.net.swap(c);
+        let moved = shift(&mut self.net, event)?;
         Ok(moved_lines(self.alloc, moved)?)
     }
 
@@ -489,25 +281,25 @@ impl World {
 
     /// Whether a step of an agent waits for the space.
     pub fn space_request(&self, agent: u8) -> bool
-        requires { agent < length self.now.desks }
-        ensures { IsTrue result ↔ ((desk_at self.now agent).asked ≢ []) }
+        requires { agent < length self.now.seats }
+        ensures { IfSome (slice_get self.now.seats agent) (λ seat. IsTrue result ↔ (seat.asked ≢ [])) }
     {
-        self.desks[usize::from(agent)].asks()
+        self.seats[usize::from(agent)].asks()
     }
 
     /// Whether a reply of the space waits for an agent.
     pub fn space_reply(&self, agent: u8) -> bool
-        requires { agent < length self.now.desks }
-        ensures { IsTrue result ↔ ((desk_at self.now agent).replied ≢ []) }
+        requires { agent < length self.now.seats }
+        ensures { IfSome (slice_get self.now.seats agent) (λ seat. IsTrue result ↔ (seat.replied ≢ [])) }
     {
-        self.desks[usize::from(agent)].replies()
+        self.seats[usize::from(agent)].replies()
     }
 
     /// Whether a call of an agent is unanswered.
     pub fn waits(&self, agent: u8) -> bool
-        requires { agent < length self.now.agents }
-        ensures { IfSome (slice_get self.now.agents agent) (λ state. result ≡ not (is_idle state.work)) }
+        requires { agent < length self.now.seats }
+        ensures { IfSome (slice_get self.now.seats agent) (λ seat. result ≡ is_some seat.agent.agent.waiting) }
     {
-        self.agents[usize::from(agent)].waits()
+        self.seats[usize::from(agent)].waits()
     }
 }

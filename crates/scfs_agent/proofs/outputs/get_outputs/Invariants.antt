@@ -1,9 +1,12 @@
 use Rattle.std.proofs.Common.{◌≡◌, ◌++◌, length}
-use Rattle.scfs_agent.specs.Acting.{get_outputs}
+use Rattle.scfs_agent.specs.Views.{asked_of}
+use Rattle.scfs_agent.specs.Outputs.{get_body, sent_to, sent_outputs}
 use Rattle.scfs_agent.proofs.outputs.get_outputs.Given as goal
 
 abbrev pub invariant-each : goal.invariant-each
-invariant-each l = l.given ++ get_outputs l.f l.row l.rest ≡ get_outputs l.f l.row l.fn.asked
+invariant-each l =
+    l.given ++ sent_outputs (sent_to (get_body l.f l.upload l.length) (asked_of l.rest))
+    ≡ sent_outputs (sent_to (get_body l.f l.upload l.length) (asked_of l.fn.asked))
 
 abbrev pub decreases-each : goal.decreases-each
 decreases-each l = length l.rest

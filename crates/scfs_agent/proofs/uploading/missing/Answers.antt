@@ -2,7 +2,7 @@ use Rattle.std.proofs.Common.{ℕ, Bool, sym, ◌∙◌}
 use Rattle.std.specs.Prelude.{not}
 use Rattle.std.specs.FinSet as set
 use Rattle.scfs_quorum_write.specs.Acks.{clouds_of}
-use Rattle.scfs_agent.proofs.CodeOutputs.{kept_more, left_more}
+use Rattle.scfs_agent.proofs.CloudLists.{kept_more, left_more}
 use Rattle.scfs_agent.proofs.uploading.missing.Goals as goal
 use Rattle.scfs_agent.proofs.uploading.missing.Goals.{then-missing+in_ok-push, else-missing}
 

@@ -28,7 +28,7 @@ returns-then-not-is_built_header-clause-plays g c =
 pub returns-in-Ok-new-clause-plays : goal.returns-in-Ok-new-clause-plays
 returns-in-Ok-new-clause-plays g c =
     let begins = subst (λ (first : Result Header Ending). Begins first c.args.reader.now c.first_header.new.reader) c.in-Ok-first.is c.in-Ok.ensures in
-    let header = c.in-Ok-new.ensures.header in
+    let header = c.in-Ok-new.ensures.stands.by_header in
     let rest = gives c.first_header.new.reader [] in
     plays_built _ (gives c.args.reader.now []) (gives c.first_header.new.reader []) c.in-Ok-first.header c.first_header.new.reader.lines (g.O.Sink.written c.args.out.now) (g.O.Sink.written c.play_events.new.out) c.play_events.result
     begins.3 (sym c.if-not-is_built_header.ensures) begins.2

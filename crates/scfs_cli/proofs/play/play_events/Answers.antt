@@ -4,7 +4,7 @@ use Rattle.scfs_schedule.specs.declared.types.Event.{Event}
 use Rattle.scfs_schedule.specs.declared.types.Ending.{Ending}
 use Rattle.scfs_schedule.specs.declared.types.Header.{Header}
 use Rattle.scfs_schedule.specs.Reading.{IsAtEvents, gives, with_event}
-use Rattle.scfs_model.specs.History.{transcript}
+use Rattle.scfs_machine.specs.History.{transcript}
 use Rattle.scfs_cli.specs.Playing.{events_played, finish_at}
 use Rattle.scfs_cli.specs.Plays.{GoesOn, Turns, entry_text}
 use Rattle.scfs_cli.specs.declared.play.Turn.{Turn}
@@ -51,7 +51,7 @@ events-preserved g c =
     record {
       past = entry ∷ i.past;
       stands = turn.2;
-      known = known_next _ header i.past event entry c.no_clash_before.ensures c.reads_are_held.ensures i.known turn.1;
+      known = known_next _ header i.past event entry c.no_clash_before.ensures c.reads_are_held.ensures c.opens_are_newest.ensures.made (omega (arith, i.count, i.few)) i.known turn.1;
       wrote = puts_then (written c.args.out.now) (written c.events.out) (written c.play_event.new.out) (transcript i.past) (entry_text i.past entry) i.wrote turn.3;
       reads = i.reads ∙ ap (with_past i.past) (goes.6 ∙ ap (λ (e : Event). with_event e (gives c.next_event.new.reader [])) (sym turn.1.same));
       place = subst (λ (h : Header). IsAtEvents c.next_event.new.reader h) (same_header c.events.reader goes.0 header goes.1 i.place) goes.2;
@@ -140,7 +140,7 @@ returns-in-WriteFault-clause-plays g c =
     let turn = subst (λ (t : Turn). Turns (λ facts answer. g.R.Fn.post c.args.rank.now (facts, tt) answer) header i.past event (written c.events.out) (written c.play_event.new.out) t) c.in-WriteFault.is (c.play_event.ensures.turns header i.past i.stands i.known.plays) in
     let entry = turn.0 in
     plays_fault _ header (entry ∷ i.past) (events_played line 0 whole.events whole.ending) _ (written c.args.out.now) (written c.play_event.new.out)
-    (known_next _ header i.past event entry c.no_clash_before.ensures c.reads_are_held.ensures i.known turn.1)
+    (known_next _ header i.past event entry c.no_clash_before.ensures c.reads_are_held.ensures c.opens_are_newest.ensures.made (omega (arith, i.count, i.few)) i.known turn.1)
     (played_next line i.past whole rest (gives c.next_event.new.reader []) event entry i.played i.reads goes.6 plays turn.1.same)
     (then_part (written c.args.out.now) (written c.events.out) (written c.play_event.new.out) (transcript i.past) (entry_text i.past entry) i.wrote turn.2)
 
@@ -156,3 +156,8 @@ returns-in-Memory-clause-plays g c =
     (played_part line i.past whole (gives c.events.reader []) i.played i.reads)
     (front_of_all (written c.args.out.now) (written c.play_event.new.out) (transcript i.past)
     (puts_more (written c.args.out.now) (written c.events.out) (written c.play_event.new.out) (transcript i.past) i.wrote turn))
+
+pub play_event-requires-clause-shown : goal.play_event-requires-clause-shown
+play_event-requires-clause-shown g c =
+    let i = c.events.invariant in
+    c.standing_worlds_are_shown.ensures c.events.world c.args.world.header i.past i.stands (omega (arith, i.count, i.few)) i.known.plays.happens

@@ -1,4 +1,7 @@
-use Rattle.scfs_cli.proofs.TurnLemmas.{written_turn}
+use Rattle.std.proofs.Common.{ℕ, arith}
+use Rattle.scfs_policy.specs.declared.rank.RankFacts.{RankFacts}
+use Rattle.scfs_cli.proofs.EdgeLemmas.{puts_nothing}
+use Rattle.scfs_cli.proofs.TurnLemmas.{too_large_next, written_turn}
 use Rattle.scfs_cli.proofs.play.take_turn.Goals as goal
 
 pub returns-in-Ok-clause-turns : goal.returns-in-Ok-clause-turns
@@ -13,3 +16,11 @@ returns-in-Ok-clause-turns g c = λ header past stands played.
       front = c.write_lines.ensures.front;
       nothing = c.write_lines.ensures.nothing;
     })
+
+pub returns-in-TooLarge-clause-turns : goal.returns-in-TooLarge-clause-turns
+returns-in-TooLarge-clause-turns g c = λ header past stands played.
+    let allows : RankFacts → ℕ → Type 0 = λ facts rank. g.R.Fn.post c.args.rank.now (facts, tt) rank in (
+      too_large_next allows header past c.args.world c.args.event.now c.states_are_whole.ensures stands played.happens (omega (arith, stands.count, c.requires.room))
+          (c.in-Err.ensures.too_large c.in-TooLarge.is),
+      puts_nothing (g.O.Sink.written c.args.out.now),
+    )

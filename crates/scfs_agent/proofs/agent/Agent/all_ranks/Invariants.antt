@@ -1,11 +1,13 @@
-use Rattle.std.proofs.Common.{◌≡◌, length, map}
-use Rattle.scfs_model.specs.Lists.{below}
-use Rattle.scfs_model.specs.Run.{Answers}
-use Rattle.scfs_agent.specs.Acts.{facts_of_cloud}
+use Rattle.std.proofs.Common.{◌≡◌, ℕ, ◌+◌, List, ◌++◌, length}
+use Rattle.scfs_machine.specs.Runs.{Answers}
 use Rattle.scfs_agent.proofs.agent.Agent.all_ranks.Given as goal
 
-abbrev pub invariant-loop-cloud : goal.invariant-loop-cloud
-invariant-loop-cloud g l = record {
-  answers : Answers (λ facts rank. g.R.Fn.post l.rank (facts, tt) rank) (map (facts_of_cloud l.self) (below l.cloud)) l.ranks;
-  count : length l.ranks ≡ l.cloud;
+abbrev pub invariant-each : goal.invariant-each
+invariant-each g l = record {
+  answers : (more : List ℕ) → Answers (λ facts rank. g.R.Fn.post l.rank (facts, tt) rank) l.rest more
+      → Answers (λ facts rank. g.R.Fn.post l.rank (facts, tt) rank) l.initial.rest (l.ranks ++ more);
+  count : length l.ranks + length l.rest ≡ length l.initial.rest;
 }
+
+abbrev pub decreases-each : goal.decreases-each
+decreases-each g l = length l.rest

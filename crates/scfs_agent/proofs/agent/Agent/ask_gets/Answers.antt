@@ -1,49 +1,40 @@
-use Rattle.std.proofs.Common.{◌≡◌, ◌≤◌, ℕ, length, sym, ap, ◌∙◌, subst, arith}
-use Rattle.std.proofs.lemmas.Grind.{common_steps}
-use Rattle.std.proofs.lemmas.List.Elements.{All-same}
-use Rattle.scfs_quorum_read.specs.Tracking.{IsOrder}
+use Rattle.std.proofs.Common.{◌≡◌, List, ◌++◌, length, sym, ap, ◌∙◌, subst, arith}
+use Rattle.scfs_schedule.specs.declared.types.Header.{Header}
 use Rattle.scfs_agent.specs.State.{AgentState}
-use Rattle.scfs_agent.specs.Acting.{numbered_from, get_outputs}
-use Rattle.scfs_agent.specs.Reacting.{FitsOutput}
-use Rattle.scfs_agent.proofs.CodeOutputs.{length-numbered, gets_fit}
+use Rattle.scfs_agent.specs.Views.{asked_of}
+use Rattle.scfs_agent.specs.Keeping.{IsFetch, calls_in}
+use Rattle.scfs_agent.specs.Outputs.{get_body, sent_outputs, sent_to}
+use Rattle.scfs_agent.specs.declared.work.Asked.{Asked}
+use Rattle.scfs_agent.proofs.ReadingLemmas.{gets_asked}
+use Rattle.scfs_agent.proofs.KeptLemmas.{kept_work}
+use Rattle.scfs_agent.proofs.AskingLemmas.{fits, gets_give, gets_after}
 use Rattle.scfs_agent.proofs.agent.Agent.ask_gets.Goals as goal
 
 pub invariant_of-self : goal.invariant_of-self
 invariant_of-self c =
     let inside = c.self.inside in
-    let f : inside.f ≡ c.args.self.now.f = ap (λ (a : AgentState). a.f) c.self.view_is in
-    let requests : inside.requests ≡ c.args.self.now.requests = ap (λ (a : AgentState). a.requests) c.self.view_is in
+    let requests : inside.requests ≡ c.args.self.now.agent.requests = ap (λ (a : AgentState). a.agent.requests) c.self.view_is in
     let inputs : inside.inputs ≡ c.args.self.now.inputs = ap (λ (a : AgentState). a.inputs) c.self.view_is in
-    let is : c.in_ok-gets.gets ≡ numbered_from inside.no inside.incarnation inside.requests c.args.clouds.now = c.in_ok-gets.ensures in
-    let count : c.len.result ≡ length c.args.clouds.now =
-    c.len.ensures ∙ ap length is ∙ length-numbered inside.no inside.incarnation inside.requests c.args.clouds.now in
-    record {
-      low = c.self.invariant.low;
-      high = c.self.invariant.high;
-      leases = c.self.invariant.leases;
-      incarnations = c.self.invariant.incarnations;
-      counted = c.self.invariant.counted;
-      drawn = omega (arith, count, f, requests, inputs, c.requires.few, c.requires.room);
-      opened = c.self.invariant.opened;
-      made = c.self.invariant.made;
-      begun = c.self.invariant.begun;
-      working = record {
-        reading = c.requires.fetch.reading ∙ sym f;
-        order = c.requires.fetch.order;
-        clouds = subst (λ (n : ℕ). IsOrder n c.args.fetch.order) (sym f) c.requires.fetch.clouds;
-        size = c.requires.fetch.size;
-        few = subst (λ (n : ℕ). length c.args.fetch.tracker.pieces ≤ n) (sym f) c.requires.fetch.few;
-        left = c.requires.fetch.left;
-        told = c.requires.fetch.told;
-      };
-      goods = c.self.invariant.goods;
-      bads = c.self.invariant.bads;
-    }
+    let count : c.len.result ≡ length c.args.clouds.now = c.len.ensures ∙ c.in_ok-gets.ensures.count in
+    let joined = c.in_ok-append.ensures ∙ ap (λ (xs : List Asked). c.args.fetch.gets ++ xs) c.as_slice-2.ensures in
+    kept_work c.self.invariant _ _ (omega (arith, count, requests, inputs, c.requires.few, c.requires.room))
+    (subst (λ (h : Header). IsFetch h.f (record c.args.fetch { gets = c.append.new.all })) (sym (ap (λ (a : AgentState). a.header) c.self.view_is))
+    (gets_asked c.args.self.now.header.f c.args.fetch c.args.clouds.now c.requires.fetch c.append.new.all c.in_ok-gets.gets
+    inside.no inside.incarnation inside.requests joined c.in_ok-gets.ensures.numbers))
+    (ap (λ (a : AgentState). calls_in a.agent.pending) c.self.view_is ∙ c.requires.free.calls)
+
+pub returns-clause-gives : goal.returns-clause-gives
+returns-clause-gives c =
+    gets_give c.args.self.now _ c.self.view_is c.args.clouds.now c.in_ok-gets.gets c.in_ok-gets.ensures.numbers c.args.fetch c.in_ok-given.given
+    c.requires.fetch.size (c.in_ok-given.ensures ∙ ap (λ (xs : List Asked). sent_outputs (sent_to (get_body c.self.inside.header.f c.args.fetch.row.upload c.args.fetch.row.length) (asked_of xs))) c.as_slice.ensures)
+
+pub returns-clause-after : goal.returns-clause-after
+returns-clause-after c =
+    gets_after c.args.self.now _ c.self.view_is c.args.clouds.now c.in_ok-gets.gets c.in_ok-gets.ensures.numbers c.requires.free.closed c.args.fetch c.append.new.all c.len.result
+    (c.in_ok-append.ensures ∙ ap (λ (xs : List Asked). c.args.fetch.gets ++ xs) c.as_slice-2.ensures) c.len.ensures
 
 pub returns-clause-asks : goal.returns-clause-asks
 returns-clause-asks c =
-    let inside = c.self.inside in
-    let is : c.in_ok-given.given ≡ get_outputs inside.f c.args.fetch.row (numbered_from inside.no inside.incarnation inside.requests c.args.clouds.now) =
-    grind (arith, common_steps) in
-    All-same (FitsOutput c.args.self.now.f) c.in_ok-given.given _ is
-    (gets_fit c.args.self.now.f inside.f c.args.fetch.row inside.no inside.incarnation inside.requests c.args.clouds.now c.requires.clouds)
+    let row = c.args.fetch.row in
+    fits c.args.self.now _ c.self.view_is c.args.clouds.now c.in_ok-gets.gets c.in_ok-gets.ensures.numbers (get_body c.self.inside.header.f row.upload row.length)
+    c.in_ok-given.given (c.in_ok-given.ensures ∙ ap (λ (xs : List Asked). sent_outputs (sent_to (get_body c.self.inside.header.f row.upload row.length) (asked_of xs))) c.as_slice.ensures) c.requires.clouds

@@ -1,26 +1,55 @@
-use Rattle.std.proofs.Common.{◌≡◌, ℕ, ◌+◌, ◌*◌, ap, ◌∙◌}
+use Rattle.std.proofs.Common.{◌≡◌, ℕ, ◌+◌, ◌*◌, ◌<◌, refl, ap, ◌∙◌, sym, subst}
+use Rattle.std.proofs.lemmas.List.Elements.{All-same}
 use Rattle.scfs_quorum_write.specs.Acks.{no_acks}
-use Rattle.scfs_unit.specs.Unit as unit
-use Rattle.scfs_model.specs.Lists.{below}
-use Rattle.scfs_model.specs.Names.{upload_no}
-use Rattle.scfs_model.specs.UnitFormat.{draw_for}
-use Rattle.scfs_agent.specs.State.{AgentState}
-use Rattle.scfs_agent.specs.Acting.{row_from}
-use Rattle.scfs_agent.specs.Keeping.{left_session}
-use Rattle.scfs_agent.proofs.CodeClosing.{if_begun}
+use Rattle.scfs_base.specs.declared.naming.UploadNo.{UploadNo}
+use Rattle.scfs_machine.specs.Format.{sealed}
+use Rattle.scfs_machine.specs.Lists.{below}
+use Rattle.scfs_machine.specs.Layers.{rows}
+use Rattle.scfs_machine.specs.Names.{upload_no}
+use Rattle.scfs_agent.specs.State.{AgentState, setup}
+use Rattle.scfs_agent.specs.Asking.{MayClose}
+use Rattle.scfs_agent.specs.Views.{left_session, row_of}
+use Rattle.scfs_agent.proofs.AckLemmas.{upload_first}
+use Rattle.scfs_agent.proofs.CloudLists.{all_below}
+use Rattle.scfs_agent.proofs.HandingLemmas.{gives_by, after_by, begun_gives, begun_after}
 use Rattle.scfs_agent.proofs.agent.Agent.begin.Goals as goal
 
-pub returns-clause-does : goal.returns-clause-does
-returns-clause-does c =
+pub ask_puts-requires-clause-upload : goal.ask_puts-requires-clause-upload
+ask_puts-requires-clause-upload c =
+    upload_first _ _ _ _ _ c.in_ok-new.ensures refl
+    (subst (λ (a : AgentState). MayClose a.no a.agent.incarnation (row_of c.row_from-row.result)) (sym c.self.view_is) c.row_from-row.ensures.closes)
+
+pub ask_puts-requires-clause-clouds : goal.ask_puts-requires-clause-clouds
+ask_puts-requires-clause-clouds c =
+    let f = c.self.inside.header.f in
+    All-same (λ (d : ℕ). d < 3 * f + 1) c.as_slice.result.now _ (c.as_slice.ensures ∙ c.in_ok-clouds.ensures) (all_below (3 * f + 1))
+
+pub returns-clause-gives : goal.returns-clause-gives
+returns-clause-gives c =
     let old = c.args.self.now in
-    let y = left_session c.args.left.now in
-    let uploads : c.self.inside.uploads ≡ old.uploads = ap (λ (a : AgentState). a.uploads) c.self.view_is in
-    let f : c.self.inside.f ≡ old.f = ap (λ (a : AgentState). a.f) c.self.view_is in
-    if_begun c.ask_puts.result old _ c.ask_puts.new.self c.args.session y c.in_ok-it.it c.row_from-row.result
-    c.in_ok-new.field-0 c.new-2.result c.as_slice.result.now c.self.view_is
-    (c.in_ok-it.ensures ∙ ap (λ (k : ℕ). unit.sealed old.f (draw_for old.f old.seed (upload_no old.no old.incarnation (k + 1))) c.args.left.now.contents) uploads)
-    (c.row_from-row.ensures.row ∙ ap (λ (k : ℕ). row_from y (k + 1) old c.in_ok-it.it) uploads)
+    let uploads : c.self.inside.uploads ≡ old.agent.uploads = ap (λ (a : AgentState). a.agent.uploads) c.self.view_is in
+    let f : c.self.inside.header.f ≡ old.header.f = ap (λ (a : AgentState). a.header.f) c.self.view_is in
+    let no : ℕ → UploadNo = λ (k : ℕ). upload_no old.no old.agent.incarnation (k + 1) in
+    gives_by c.ask_puts.result _ _
+    (begun_gives old _ c.self.view_is c.args.session c.args.left c.row_from-row.result c.in_ok-unit.unit c.new.result c.in_ok-new.field-0 c.as_slice.result.now
+    (c.in_ok-unit.ensures ∙ ap (λ (k : ℕ). sealed (setup old) (no k) c.args.left.contents) uploads)
+    (c.row_from-row.ensures.row ∙ ap (λ (k : ℕ). rows.closed (left_session c.args.left) (no k) c.in_ok-unit.unit) uploads)
+    c.new.ensures
     (c.in_ok-new.ensures ∙ ap (λ (n : ℕ). no_acks n 1) f)
-    c.new-2.ensures
-    (c.as_slice.ensures ∙ c.in_ok-clouds.ensures ∙ ap (λ (n : ℕ). below (3 * n + 1)) f)
-    c.ask_puts.ensures.does
+    (c.as_slice.ensures ∙ c.in_ok-clouds.ensures ∙ ap (λ (n : ℕ). below (3 * n + 1)) f))
+    c.ask_puts.ensures.gives
+
+pub returns-clause-after : goal.returns-clause-after
+returns-clause-after c =
+    let old = c.args.self.now in
+    let uploads : c.self.inside.uploads ≡ old.agent.uploads = ap (λ (a : AgentState). a.agent.uploads) c.self.view_is in
+    let f : c.self.inside.header.f ≡ old.header.f = ap (λ (a : AgentState). a.header.f) c.self.view_is in
+    let no : ℕ → UploadNo = λ (k : ℕ). upload_no old.no old.agent.incarnation (k + 1) in
+    after_by c.ask_puts.result _ _ _
+    (begun_after old _ c.self.view_is c.args.session c.args.left c.row_from-row.result c.in_ok-unit.unit c.new.result c.in_ok-new.field-0 c.as_slice.result.now
+    (c.in_ok-unit.ensures ∙ ap (λ (k : ℕ). sealed (setup old) (no k) c.args.left.contents) uploads)
+    (c.row_from-row.ensures.row ∙ ap (λ (k : ℕ). rows.closed (left_session c.args.left) (no k) c.in_ok-unit.unit) uploads)
+    c.new.ensures
+    (c.in_ok-new.ensures ∙ ap (λ (n : ℕ). no_acks n 1) f)
+    (c.as_slice.ensures ∙ c.in_ok-clouds.ensures ∙ ap (λ (n : ℕ). below (3 * n + 1)) f))
+    c.ask_puts.ensures.after

@@ -1,13 +1,28 @@
-use Rattle.scfs_agent.specs.Keeping.{left_session}
-use Rattle.scfs_agent.proofs.CodeClosing.{if_closed_none, if_closed_writing}
+use Rattle.std.proofs.Common.{sym, subst}
+use Rattle.scfs_agent.specs.Keeping.{HaveBases}
+use Rattle.scfs_agent.specs.Views.{left_session}
+use Rattle.scfs_agent.proofs.KeptLemmas.{kept_sessions, ended_bases, left_base}
+use Rattle.scfs_agent.proofs.CallLemmas.{close_none_after}
+use Rattle.scfs_agent.proofs.ToldLemmas.{on_ok_so}
 use Rattle.scfs_agent.proofs.agent.Agent.close.Goals as goal
 
-pub returns-in-Err-clause-does : goal.returns-in-Err-clause-does
-returns-in-Err-clause-does c =
-    if_closed_none c.refuse.result c.args.self.now _ c.args.session c.in-Err.why c.take.new.self c.self.view_is c.in-Err.ensures.after
-    c.in-Err.ensures.answer.1 c.in-Err.ensures.answer.0 c.refuse.ensures.does
+pub invariant_of-self : goal.invariant_of-self
+invariant_of-self c =
+    kept_sessions c.self.invariant _ (subst HaveBases (sym c.take.ensures.after) (ended_bases c.self.inside.sessions c.args.session c.self.invariant.bases))
 
-pub returns-then-left-clause-does : goal.returns-then-left-clause-does
-returns-then-left-clause-does c =
-    if_closed_writing c.begin.result c.args.self.now _ c.begin.new.self c.args.session (left_session c.in-Ok.left) c.take.new.self c.self.view_is
-    c.in-Ok.ensures.after c.in-Ok.ensures.answer c.if-left.true c.begin.ensures.does
+pub invariant_of-self-then-left : goal.invariant_of-self-then-left
+invariant_of-self-then-left c =
+    kept_sessions c.self.invariant _ (subst HaveBases (sym c.take.ensures.after) (ended_bases c.self.inside.sessions c.args.session c.self.invariant.bases))
+
+pub invariant_of-self-else-left : goal.invariant_of-self-else-left
+invariant_of-self-else-left c =
+    kept_sessions c.self.invariant _ (subst HaveBases (sym c.take.ensures.after) (ended_bases c.self.inside.sessions c.args.session c.self.invariant.bases))
+
+pub begin-requires-clause-base : goal.begin-requires-clause-base
+begin-requires-clause-base c = left_base c.self.inside.sessions c.args.session (left_session c.in-Ok.left) c.self.invariant.bases c.in-Ok.ensures.answer
+
+pub returns-in-Err-clause-after : goal.returns-in-Err-clause-after
+returns-in-Err-clause-after c =
+    on_ok_so c.refuse.result
+    (close_none_after c.args.self.now _ c.self.view_is c.args.session c.requires.idle.free.closed _ c.take.ensures.after c.in-Err.why c.in-Err.ensures.answer.0
+    c.in-Err.ensures.answer.1)

@@ -1,31 +1,34 @@
-use Rattle.std.proofs.Common.{◌≡◌, ℕ, true, sym, ap, ◌∙◌, subst}
+use Rattle.std.proofs.Common.{◌≡◌, true, false, ap}
 use Rattle.std.specs.Prelude.{not}
-use Rattle.std.proofs.lemmas.Result.{IfOk-weaker}
+use Rattle.std.proofs.Common.{arith}
+use Rattle.std.proofs.lemmas.Grind.{common_steps}
+use Rattle.scfs_machine.specs.Asked.{is_answer_to}
 use Rattle.scfs_quorum_read.specs.Reading.{is_among}
 use Rattle.scfs_agent.specs.State.{AgentState}
-use Rattle.scfs_agent.specs.Acting.{is_answer_to, reads}
-use Rattle.scfs_agent.specs.Keeping.{HasRead}
-use Rattle.scfs_agent.proofs.CodeHearing.{has_read, heard_as, counted_f}
-use Rattle.scfs_agent.proofs.CodeOutputs.{does_same}
+use Rattle.scfs_agent.specs.Views.{asked_of}
+use Rattle.scfs_agent.proofs.ReadingLemmas.{has_read_so}
+use Rattle.scfs_agent.proofs.HandingLemmas.{gives_by, after_by, taken_gives, taken_after}
 use Rattle.scfs_agent.proofs.agent.Agent.heard_fetch.Goals as goal
 
 pub reads-requires-clause-fetch : goal.reads-requires-clause-fetch
 reads-requires-clause-fetch c =
-    let came = c.in_ok-step.ensures in
-    let f : c.count.new.self.f ≡ c.args.self.now.f =
-    ap (λ (a : AgentState). a.f) c.count.ensures ∙ counted_f c.args.self.now c.args.cloud c.wants-2.result in
-    subst (λ (n : ℕ). HasRead n (record c.args.fetch { tracker = c.answer.new.self }) c.in_ok-step.step) (sym f)
-    (has_read c.args.self.now.f c.args.fetch c.answer.new.self c.args.cloud c.args.answer.now c.in_ok-step.step c.requires.fetch
-    c.in_ok-step.ensures.reading c.in_ok-step.ensures.step c.in_ok-step.ensures.stands c.in_ok-step.ensures.open)
+    let mine : is_answer_to (asked_of c.args.fetch.gets) c.args.cloud c.args.request ≡ true = grind (arith, common_steps) in
+    let none : is_among c.args.cloud c.args.fetch.tracker.pieces ≡ false = grind (arith, common_steps) in
+    has_read_so c.args.self.now.header.f c.args.fetch c.requires.fetch c.args.cloud c.args.request c.args.answer.now mine none c.tally.new.self.header.f
+    c.answer.new.self c.in_ok-step.step (ap (λ (a : AgentState). a.header.f) c.in_ok-tally.ensures) c.in_ok-step.ensures.after c.in_ok-step.ensures.steps
 
-pub returns-clause-does : goal.returns-clause-does
-returns-clause-does c =
-    let fetch = c.args.fetch in
-    let to : is_answer_to fetch.gets c.args.cloud c.args.request ≡ true = cc in
-    let wanted : not (is_among c.args.cloud fetch.tracker.pieces) ≡ true = cc in
-    IfOk-weaker c.reads.result _ _
-    (λ given h past was. does_same c.reads.new.self given _ _
-    (ap (λ (a : AgentState). reads a (record fetch { tracker = c.answer.new.self }) c.answer.new.self c.in_ok-step.step) c.count.ensures
-    ∙ sym (heard_as c.args.self.now fetch past c.args.cloud c.args.request c.args.answer.now c.answer.new.self c.in_ok-step.step c.wants-2.result was
-    to wanted c.wants-2.ensures c.in_ok-step.ensures.reading (c.in_ok-step.ensures.step past was) (c.in_ok-step.ensures.stands past was))) h)
-    c.reads.ensures.does
+pub returns-clause-gives : goal.returns-clause-gives
+returns-clause-gives c =
+    let mine : is_answer_to (asked_of c.args.fetch.gets) c.args.cloud c.args.request ≡ true = grind (arith, common_steps) in
+    let none : is_among c.args.cloud c.args.fetch.tracker.pieces ≡ false = grind (arith, common_steps) in
+    gives_by c.reads.result _ _ (taken_gives c.args.self.now c.args.fetch c.requires.fetch c.args.cloud c.args.request c.args.answer.now mine none
+    c.tally.new.self c.answer.new.self c.in_ok-step.step (not c.wants-2.result) c.in_ok-tally.ensures c.in_ok-step.ensures.after c.in_ok-step.ensures.steps
+    (ap not c.wants-2.ensures)) c.reads.ensures.gives
+
+pub returns-clause-after : goal.returns-clause-after
+returns-clause-after c =
+    let mine : is_answer_to (asked_of c.args.fetch.gets) c.args.cloud c.args.request ≡ true = grind (arith, common_steps) in
+    let none : is_among c.args.cloud c.args.fetch.tracker.pieces ≡ false = grind (arith, common_steps) in
+    after_by c.reads.result _ _ _ (taken_after c.args.self.now c.args.fetch c.requires.fetch c.args.cloud c.args.request c.args.answer.now mine none
+    c.tally.new.self c.answer.new.self c.in_ok-step.step (not c.wants-2.result) c.in_ok-tally.ensures c.in_ok-step.ensures.after c.in_ok-step.ensures.steps
+    (ap not c.wants-2.ensures)) c.reads.ensures.after

@@ -1,5 +1,6 @@
-use Rattle.scfs_world.proofs.NewLemmas.{Made}
+use Rattle.std.proofs.Common.{◌≡◌}
+use Rattle.scfs_world.proofs.NewLemmas.{new_seats}
 use Rattle.scfs_world.proofs.world.World.new.Given as goal
 
 abbrev pub invariant-loop-no : goal.invariant-loop-no
-invariant-loop-no l = Made l.header l.no l.agents.items l.desks.items
+invariant-loop-no l = l.seats.items ≡ new_seats l.header l.no

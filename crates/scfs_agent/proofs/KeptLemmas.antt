@@ -1,0 +1,309 @@
+-- What holds of every agent goes on to hold.
+use Rattle.std.proofs.Common.{◌≡◌, ℕ, ◌+◌, ◌*◌, ◌<◌, ◌≤◌, List, [], ◌∷◌, ◌++◌, map, Bool, true, false, cond, Option, Some, None, refl, sym, ap, ◌∙◌, subst, arith}
+use Rattle.std.specs.Prelude.{◌==◌, IfSome, if◌then◌else◌, is_some, remove}
+use Rattle.std.specs.List.{All}
+use Rattle.std.specs.Map.{set_value}
+use Rattle.std.specs.Ordering.{nat_cmp, match_ordering}
+use Rattle.std.specs.declared.cmp.Ordering.{Ordering}
+use Rattle.std.specs.declared.cmp.Ordering.TheVariants.{Less, Equal, Greater}
+use Rattle.std.specs.BTreeMap.{is_at}
+use Rattle.std.proofs.lemmas.List.Elements.{All-cons, All-head, All-tail, All-weaker, All-map, All-push}
+use Rattle.std.proofs.lemmas.List.{map-append}
+use Rattle.std.proofs.lemmas.Map.Entries.{All-lookup}
+use Rattle.scfs_policy.specs.declared.rank.RankFacts.{RankFacts}
+use Rattle.scfs_schedule.specs.declared.types.Refusal.{Refusal}
+use Rattle.scfs_session.specs.declared.sessions.Session.{Session}
+use Rattle.scfs_session.specs.Open.{OpenSessions, session_of, opened, ended, change_refusal, unless, changed, sessions_after}
+use Rattle.scfs_machine.specs.Opens.{one_more}
+use Rattle.scfs_schedule.specs.declared.types.Header.{Header}
+use Rattle.scfs_anchor.specs.Tree.{Each}
+use Rattle.scfs_machine.specs.Layers.{Row}
+use Rattle.scfs_machine.specs.Agents.{Closed}
+use Rattle.scfs_agent.specs.Asking.{MayUpload}
+use Rattle.scfs_agent.specs.Settled.{OneBegun}
+use Rattle.scfs_agent.specs.Views.{step_of, request_of, waiting_of, closed_in}
+use Rattle.scfs_agent.specs.Keeping.{HaveBases, AreTallies, HaveRoom, MayTurn, IsKept, IsWork, FitsAsking, calls_in, calls_of, is_call}
+use Rattle.scfs_agent.specs.declared.work.Pending.{Pending}
+use Rattle.scfs_agent.specs.declared.work.Work.{Work}
+use Rattle.scfs_agent.specs.declared.work.Work.TheVariants as works
+use Rattle.scfs_agent.proofs.PendingLemmas.{calls_push, All-remove}
+
+abbrev Based : ℕ × Session → Type 0
+Based x = x.1.base ≤ 1000000
+
+opened_by : (o : Ordering) (h : ℕ) (y : Session) (e : ℕ × Session) (es rest : OpenSessions) → HaveBases (e ∷ es) → y.base ≤ 1000000 → HaveBases rest
+    → HaveBases (match_ordering o ((h, y) ∷ e ∷ es) ((e.0, y) ∷ es) (e ∷ rest))
+opened_by Less h y e es rest are base more = All-cons Based (h, y) (e ∷ es) base are
+opened_by Equal h y e es rest are base more = All-cons Based (e.0, y) es base (All-tail Based e es are)
+opened_by Greater h y e es rest are base more = All-cons Based e rest (All-head Based e es are) more
+
+pub opened_bases : (sessions : OpenSessions) (h : ℕ) (y : Session) → HaveBases sessions → y.base ≤ 1000000 → HaveBases (opened sessions h y)
+opened_bases [] h y are base = All-cons Based (h, y) [] base are
+opened_bases (e ∷ es) h y are base =
+    opened_by (nat_cmp h e.0) h y e es (opened es h y) are base (opened_bases es h y (All-tail Based e es are) base)
+
+ended_by : (b : Bool) (e : ℕ × Session) (es rest : OpenSessions) → HaveBases (e ∷ es) → HaveBases rest → HaveBases (cond b es (e ∷ rest))
+ended_by true e es rest are more = All-tail Based e es are
+ended_by false e es rest are more = All-cons Based e rest (All-head Based e es are) more
+
+pub ended_bases : (sessions : OpenSessions) (h : ℕ) → HaveBases sessions → HaveBases (ended sessions h)
+ended_bases [] h are = are
+ended_bases (e ∷ es) h are = ended_by (is_at (nat_cmp h) e.0) e es (ended es h) are (ended_bases es h (All-tail Based e es are))
+
+set_by : (b : Bool) (y : Session) (e : ℕ × Session) (es rest : OpenSessions) → HaveBases (e ∷ es) → y.base ≤ 1000000 → HaveBases rest
+    → HaveBases (cond b ((e.0, y) ∷ es) (e ∷ rest))
+set_by true y e es rest are base more = All-cons Based (e.0, y) es base (All-tail Based e es are)
+set_by false y e es rest are base more = All-cons Based e rest (All-head Based e es are) more
+
+set_bases : (test : ℕ → Bool) (sessions : OpenSessions) (y : Session) → HaveBases sessions → y.base ≤ 1000000 → HaveBases (set_value test sessions y)
+set_bases test [] y are base = are
+set_bases test (e ∷ es) y are base =
+    set_by (test e.0) y e es (set_value test es y) are base (set_bases test es y (All-tail Based e es are) base)
+
+changed_by : (sessions : OpenSessions) (h end : ℕ) (change : List ℕ → List ℕ) (o : Option Session) → HaveBases sessions → IfSome o (λ y. y.base ≤ 1000000)
+    → HaveBases (sessions_after sessions h (changed o end change))
+changed_by sessions h end change None are base = are
+changed_by sessions h end change (Some y) are base = by (change_refusal y end) where
+  by : (r : Option Refusal) → HaveBases (sessions_after sessions h (unless r (record y { contents = change y.contents })))
+  by None = set_bases (is_at (nat_cmp h)) sessions (record y { contents = change y.contents }) are base
+  by (Some why) = are
+
+pub changed_bases : (sessions : OpenSessions) (h end : ℕ) (change : List ℕ → List ℕ) → HaveBases sessions
+    → HaveBases (sessions_after sessions h (changed (session_of sessions h) end change))
+changed_bases sessions h end change are =
+    changed_by sessions h end change (session_of sessions h) are (All-lookup (λ (y : Session). y.base ≤ 1000000) (is_at (nat_cmp h)) sessions are)
+
+-- the version of a session
+pub left_base : (sessions : OpenSessions) (h : ℕ) (y : Session) → HaveBases sessions → session_of sessions h ≡ Some y → y.base ≤ 1000000
+left_base sessions h y are is =
+    subst (λ (o : Option Session). IfSome o (λ y. y.base ≤ 1000000)) is (All-lookup (λ (y : Session). y.base ≤ 1000000) (is_at (nat_cmp h)) sessions are)
+
+-- the cloud of facts stays, and they count one answer more at most
+one_more_cloud : (c : ℕ) (good : Bool) (x : RankFacts) → (one_more c good x).cloud ≡ x.cloud
+one_more_cloud c good x = by (x.cloud == c) good where
+  by : (b g : Bool) → (if b then (if g then record x { good = x.good + 1 } else record x { bad = x.bad + 1 }) else x).cloud ≡ x.cloud
+  by true true = refl
+  by true false = refl
+  by false g = refl
+
+one_more_few : (inputs c : ℕ) (good : Bool) (x : RankFacts) → (x.good + 1 ≤ inputs) × (x.bad + 1 ≤ inputs)
+    → ((one_more c good x).good ≤ inputs) × ((one_more c good x).bad ≤ inputs)
+one_more_few inputs c good x room = by (x.cloud == c) good where
+  by : (b g : Bool) → let y : RankFacts = if b then (if g then record x { good = x.good + 1 } else record x { bad = x.bad + 1 }) else x in
+      (y.good ≤ inputs) × (y.bad ≤ inputs)
+  by true true = (room.0, omega (arith, room.1))
+  by true false = (omega (arith, room.0), room.1)
+  by false g = (omega (arith, room.0), omega (arith, room.1))
+
+same_pair : (a b : ℕ) (more rest : List ℕ) → a ≡ b → more ≡ rest → a ∷ more ≡ b ∷ rest
+same_pair a b more rest e f = cc
+
+same_clouds : (c : ℕ) (good : Bool) (tallies : List RankFacts)
+    → map (λ (x : RankFacts). x.cloud) (map (one_more c good) tallies) ≡ map (λ (x : RankFacts). x.cloud) tallies
+same_clouds c good [] = refl
+same_clouds c good (x ∷ xs) = same_pair _ _ _ _ (one_more_cloud c good x) (same_clouds c good xs)
+
+pub tallies_more : (f inputs c : ℕ) (good : Bool) (tallies : List RankFacts) → AreTallies f inputs tallies → HaveRoom inputs tallies
+    → AreTallies f inputs (map (one_more c good) tallies)
+tallies_more f inputs c good tallies are room = record {
+  clouds = same_clouds c good tallies ∙ are.clouds;
+  few =
+      All-map (λ (x : RankFacts). (x.good ≤ inputs) × (x.bad ≤ inputs)) (one_more c good) tallies
+      (All-weaker (λ (x : RankFacts). (x.good + 1 ≤ inputs) × (x.bad + 1 ≤ inputs)) _ (λ x h. one_more_few inputs c good x h) tallies room);
+}
+
+-- an agent with other work, sessions, tallies or steps that were asked
+module _ {header : Header} {no incarnation inputs requests opens files uploads : ℕ} {work : Work} {sessions : OpenSessions} {tallies : List RankFacts} {pending : List Pending}
+    (kept : IsKept header no incarnation inputs requests opens files uploads work sessions tallies pending) where
+  pub kept_idle : (others : OpenSessions) → HaveBases others → calls_in (map request_of pending) ≡ 0
+      → IsKept header no incarnation inputs requests opens files uploads works.Idle others tallies pending
+  kept_idle others bases none = record {
+    is_header = kept.is_header;
+    member = kept.member;
+    incarnations = kept.incarnations;
+    counted = kept.counted;
+    drawn = kept.drawn;
+    opened = kept.opened;
+    made = kept.made;
+    begun = kept.begun;
+    working = tt;
+    bases = bases;
+    tallied = kept.tallied;
+    waits = omega (arith, none);
+    fitting = kept.fitting;
+  }
+
+  pub kept_sessions : (others : OpenSessions) → HaveBases others
+      → IsKept header no incarnation inputs requests opens files uploads work others tallies pending
+  kept_sessions others bases = record {
+    is_header = kept.is_header;
+    member = kept.member;
+    incarnations = kept.incarnations;
+    counted = kept.counted;
+    drawn = kept.drawn;
+    opened = kept.opened;
+    made = kept.made;
+    begun = kept.begun;
+    working = kept.working;
+    bases = bases;
+    tallied = kept.tallied;
+    waits = kept.waits;
+    fitting = kept.fitting;
+  }
+
+  pub kept_tallies : (others : List RankFacts) → AreTallies header.f inputs others
+      → IsKept header no incarnation inputs requests opens files uploads work sessions others pending
+  kept_tallies others are = record {
+    is_header = kept.is_header;
+    member = kept.member;
+    incarnations = kept.incarnations;
+    counted = kept.counted;
+    drawn = kept.drawn;
+    opened = kept.opened;
+    made = kept.made;
+    begun = kept.begun;
+    working = kept.working;
+    bases = kept.bases;
+    tallied = are;
+    waits = kept.waits;
+    fitting = kept.fitting;
+  }
+
+  -- with further requests, for this work
+  pub kept_work : (drawn : ℕ) (other : Work) → drawn ≤ 32 * inputs → IsWork no incarnation header.f inputs other → calls_in (map request_of pending) ≡ 0
+      → IsKept header no incarnation inputs drawn opens files uploads other sessions tallies pending
+  kept_work drawn other few is none = record {
+    is_header = kept.is_header;
+    member = kept.member;
+    incarnations = kept.incarnations;
+    counted = kept.counted;
+    drawn = few;
+    opened = kept.opened;
+    made = kept.made;
+    begun = kept.begun;
+    working = is;
+    bases = kept.bases;
+    tallied = kept.tallied;
+    waits = omega (arith, none);
+    fitting = kept.fitting;
+  }
+
+  -- a step more is asked
+  pub kept_asked : (x : Pending) (all : List Pending) → all ≡ pending ++ x ∷ [] → requests + 1 ≤ 32 * inputs → FitsAsking x.asking
+      → calls_in (map request_of pending) + cond (is_call (step_of x.asking)) 1 0 ≤ calls_of (waiting_of work)
+      → IsKept header no incarnation inputs (requests + 1) opens files uploads work sessions tallies all
+  kept_asked x all joined few fits calls = record {
+    is_header = kept.is_header;
+    member = kept.member;
+    incarnations = kept.incarnations;
+    counted = kept.counted;
+    drawn = few;
+    opened = kept.opened;
+    made = kept.made;
+    begun = kept.begun;
+    working = kept.working;
+    bases = kept.bases;
+    tallied = kept.tallied;
+    waits =
+        let more : calls_in (map request_of all) ≡ calls_in (map request_of pending) + cond (is_call (step_of x.asking)) 1 0 =
+        ap (λ (xs : List Pending). calls_in (map request_of xs)) joined ∙ ap calls_in (map-append request_of pending (x ∷ []))
+        ∙ calls_push (map request_of pending) (request_of x) in
+        omega (arith, more, calls);
+    fitting = subst (All (λ (y : Pending). FitsAsking y.asking)) (sym joined) (All-push (λ (y : Pending). FitsAsking y.asking) pending x kept.fitting fits);
+  }
+
+  -- a step is told
+  pub kept_told : (at : ℕ) (rest : List Pending) → rest ≡ remove pending at → calls_in (map request_of rest) ≤ calls_of (waiting_of work)
+      → IsKept header no incarnation inputs requests opens files uploads work sessions tallies rest
+  kept_told at rest left calls = record {
+    is_header = kept.is_header;
+    member = kept.member;
+    incarnations = kept.incarnations;
+    counted = kept.counted;
+    drawn = kept.drawn;
+    opened = kept.opened;
+    made = kept.made;
+    begun = kept.begun;
+    working = kept.working;
+    bases = kept.bases;
+    tallied = kept.tallied;
+    waits = calls;
+    fitting = subst (All (λ (y : Pending). FitsAsking y.asking)) (sym left) (All-remove (λ (y : Pending). FitsAsking y.asking) pending at kept.fitting);
+  }
+
+  counted_work : (w : Work) → IsWork no incarnation header.f inputs w → IsWork no incarnation header.f (inputs + 1) w
+  counted_work works.Idle is = tt
+  counted_work works.Step is = tt
+  counted_work (works.Fetch fetch) is = is
+  counted_work (works.Upload upload) is =
+      record { acks = is.acks; part = is.part; counted = is.counted; turns = omega (arith, is.turns); closes = is.closes }
+
+  -- an input more
+  pub kept_counted : inputs < 1000000 → IsKept header no incarnation (inputs + 1) requests opens files uploads work sessions tallies pending
+  kept_counted room = record {
+    is_header = kept.is_header;
+    member = kept.member;
+    incarnations = kept.incarnations;
+    counted = omega (arith, room);
+    drawn = omega (arith, kept.drawn);
+    opened = omega (arith, kept.opened);
+    made = omega (arith, kept.made);
+    begun = omega (arith, kept.begun);
+    working = counted_work work kept.working;
+    bases = kept.bases;
+    tallied = record {
+      clouds = kept.tallied.clouds;
+      few =
+          All-weaker (λ (x : RankFacts). (x.good ≤ inputs) × (x.bad ≤ inputs)) (λ (x : RankFacts). (x.good ≤ inputs + 1) × (x.bad ≤ inputs + 1))
+          (λ x h. (omega (arith, h.0), omega (arith, h.1))) tallies kept.tallied.few;
+    };
+    waits = kept.waits;
+    fitting = kept.fitting;
+  }
+
+  may_turn : (w : Work) → IsWork no incarnation header.f inputs w → MayTurn (inputs + 1) (closed_in w)
+  may_turn works.Idle is = tt
+  may_turn works.Step is = tt
+  may_turn (works.Fetch fetch) is = tt
+  may_turn (works.Upload upload) is = omega (arith, is.turns)
+
+  pub turns_counted : MayTurn (inputs + 1) (closed_in work)
+  turns_counted = may_turn work kept.working
+
+  pub room_counted : HaveRoom (inputs + 1) tallies
+  room_counted =
+      All-weaker (λ (x : RankFacts). (x.good ≤ inputs) × (x.bad ≤ inputs)) (λ (x : RankFacts). (x.good + 1 ≤ inputs + 1) × (x.bad + 1 ≤ inputs + 1))
+      (λ x h. (omega (arith, h.0), omega (arith, h.1))) tallies kept.tallied.few
+
+-- what it uploads may be completed
+pub closes_in : (a incarnation f inputs : ℕ) (w : Work) → IsWork a incarnation f inputs w
+    → Each (λ (x : Closed Row). MayUpload a incarnation x.upload) (closed_in w)
+closes_in a incarnation f inputs works.Idle is = tt
+closes_in a incarnation f inputs works.Step is = tt
+closes_in a incarnation f inputs (works.Fetch fetch) is = tt
+closes_in a incarnation f inputs (works.Upload upload) is = (is.closes, tt)
+
+-- an agent whose calls are all answered
+pub calls_none : (w : Work) → is_some (waiting_of w) ≡ false → calls_of (waiting_of w) ≡ 0
+calls_none works.Idle e = refl
+calls_none works.Step e = cc
+calls_none (works.Fetch fetch) e = cc
+calls_none (works.Upload upload) e = cc
+
+pub closed_none : (w : Work) → is_some (waiting_of w) ≡ false → closed_in w ≡ []
+closed_none works.Idle e = refl
+closed_none works.Step e = cc
+closed_none (works.Fetch fetch) e = cc
+closed_none (works.Upload upload) e = cc
+
+pub waiting_none : (w : Work) → is_some (waiting_of w) ≡ false → waiting_of w ≡ None
+waiting_none works.Idle e = refl
+waiting_none works.Step e = cc
+waiting_none (works.Fetch fetch) e = cc
+waiting_none (works.Upload upload) e = cc
+
+pub one_closed : (w : Work) → OneBegun (closed_in w)
+one_closed works.Idle = tt
+one_closed works.Step = tt
+one_closed (works.Fetch fetch) = tt
+one_closed (works.Upload upload) = refl

@@ -1,0 +1,109 @@
+use Rattle.std.specs.Prelude.{◌≡◌, ◌<◌, ◌≤◌, ◌+◌, ◌*◌, ℕ, List, [], ◌∷◌, length, Some, slice_get, slice_set}
+use Rattle.scfs_base.specs.Limits.{carried_limit}
+use Rattle.scfs_base.specs.declared.cloud.CloudAnswer.{CloudAnswer}
+use Rattle.scfs_base.specs.declared.naming.RequestNo.{RequestNo}
+use Rattle.scfs_policy.specs.declared.rank.RankFacts.{RankFacts}
+use Rattle.scfs_schedule.specs.declared.types.Event.{Event}
+use Rattle.scfs_schedule.specs.declared.types.Event.TheVariants as events
+use Rattle.scfs_schedule.specs.declared.types.Header.{Header}
+use Rattle.scfs_schedule.specs.declared.types.Line.{Line}
+use Rattle.scfs_schedule.specs.declared.types.Line.TheVariants as lines
+use Rattle.scfs_tuples.specs.declared.types.Tuple.{Tuple}
+use Rattle.scfs_net.specs.Queues.{NetState}
+use Rattle.scfs_anchor.specs.Holding.{Holds}
+use Rattle.scfs_machine.specs.UnitFormat.{under}
+use Rattle.scfs_machine.specs.Clouds.{all_asked}
+use Rattle.scfs_machine.specs.Events.{Place, Agent_has, Space_has, Cloud_has, Nowhere, place_of}
+use Rattle.scfs_machine.specs.Layers.{Row, rows}
+use Rattle.scfs_machine.specs.Runs.{Answers}
+use Rattle.scfs_machine.specs.Agents.{Hears}
+use Rattle.scfs_machine.specs.States.{Seat, State, Effect, leaving, comes, at_agent, at_space, sum_of}
+use Rattle.scfs_world.specs.Shows.{ShowsSeat}
+use Rattle.scfs_world.specs.State.{SeatState}
+use Rattle.scfs_world.specs.Stepping.{IsSeat}
+use Rattle.scfs_world.specs.Whole.{IsWholeSeat}
+
+-- What an event at one seat does: it leaves all other seats.
+
+-- what it may change: the seat, the tuples of the space, and the clouds
+pub record Around : Type 0 where
+  pub seat : SeatState
+  pub space : List Tuple
+  pub net : NetState
+
+-- what the machine does at the seat of agent a, where that is so and the rank rule gives these answers
+abbrev pub At_seat : Type 0
+At_seat = Header → (a : ℕ) → State Row → (ranks : List ℕ) → Seat Row → Effect Row
+
+abbrev pub placed_at : Place → At_seat
+placed_at (Agent_has b x) header a state ranks m = at_agent (under header) rows state (record { now = state.clock; ranks = ranks }) a x m
+placed_at (Space_has b x) header a state ranks m = at_space (under header) rows state (record { now = state.clock; ranks = ranks }) a x m
+placed_at (Cloud_has c x) header a state ranks m = leaving state []
+placed_at Nowhere header a state ranks m = leaving state []
+
+abbrev pub event_at : Event → At_seat
+event_at event = placed_at (place_of event)
+
+-- an answer of a cloud is given to it
+abbrev pub answer_at : (c : ℕ) → RequestNo → CloudAnswer → At_seat
+answer_at c request answer header a state ranks m =
+    comes (under header) rows state a (record { now = state.clock; ranks = ranks })
+    (lines.Gave c request (sum_of (under header) answer) ∷ []) (Hears c request answer) m
+
+-- at a moment the seat of agent a is shown, and the tree, in which no file has more versions than this
+pub record IsAt (header : Header) (a now most : ℕ) (x : Around) (state : State Row) (m : Seat Row) : Type 0 where
+  pub clock : now ≡ state.clock
+  pub there : slice_get state.seats a ≡ Some m
+  pub seat : ShowsSeat header a x.seat m
+  pub space : Holds now most x.space state.tree
+  pub whole : IsWholeSeat state.tree.nodes m
+
+-- these lines are those of an effect on a state, and what it leaves is shown
+pub record Leaves (header : Header) (a now most : ℕ) (new : Around) (net : NetState) (shown : List Line) (state : State Row) (x : Effect Row) : Type 0 where
+  pub m : Seat Row
+  pub lines : shown ≡ x.lines
+  pub clock : x.state.clock ≡ state.clock
+  pub seats : x.state.seats ≡ slice_set state.seats a m
+  pub seat : ShowsSeat header a new.seat m
+  pub space : Holds now (most + 1) new.space x.state.tree
+  pub sent : new.net ≡ all_asked net x.sent
+
+-- what the machine does at a seat is done
+abbrev pub SeatSteps : (allows : RankFacts → ℕ → Type 0) → (now : ℕ) → At_seat → (old new : Around) → List Line → Type 0
+SeatSteps allows now does old new shown =
+    (header : Header) (a most : ℕ) (state : State Row) (m : Seat Row) → most < 1000000 → IsAt header a now most old state m →
+    (ranks : List ℕ) × Answers allows (does header a state ranks m).ranked ranks
+    × Leaves header a now most new old.net shown state (does header a state ranks m)
+
+-- or would carry too many bytes
+abbrev pub SeatPasses : (allows : RankFacts → ℕ → Type 0) → (now : ℕ) → At_seat → (old : Around) → Type 0
+SeatPasses allows now does old =
+    (header : Header) (a most : ℕ) (state : State Row) (m : Seat Row) → most < 1000000 → IsAt header a now most old state m →
+    (ranks : List ℕ) × Answers allows (does header a state ranks m).ranked ranks
+    × (carried_limit < (all_asked old.net (does header a state ranks m).sent).carried)
+
+-- there is such a state
+abbrev pub IsShownAt : (now : ℕ) → Around → Type 0
+IsShownAt now x = (header : Header) × (a : ℕ) × (most : ℕ) × (state : State Row) × (m : Seat Row) × IsAt header a now most x state m
+
+-- a seat and its clouds, after so many events
+pub record IsReady (events : ℕ) (x : Around) : Type 0 where
+  pub seat : IsSeat events x.seat
+  pub clouds : length x.net.clouds ≡ 3 * x.seat.agent.header.f + 1
+  pub carried : x.net.carried ≤ carried_limit
+
+-- an event leaves a seat ready with one event more, and whose it is
+pub record KeepsReady (old new : Around) : Type 0 where
+  pub ready : (events : ℕ) → IsReady events old → IsReady (events + 1) new
+  pub header : new.seat.agent.header ≡ old.seat.agent.header
+  pub clouds : length new.net.clouds ≡ length old.net.clouds
+  pub carried : new.net.carried ≤ carried_limit
+
+-- an event at the seat of agent a
+abbrev pub IsAtSeat : (a : ℕ) → Event → Type 0
+IsAtSeat a (events.Call b call) = b ≡ a
+IsAtSeat a (events.Space b) = b ≡ a
+IsAtSeat a (events.Later b) = b ≡ a
+IsAtSeat a (events.Told b) = b ≡ a
+IsAtSeat a (events.Turn b) = b ≡ a
+IsAtSeat a other = ⊥
