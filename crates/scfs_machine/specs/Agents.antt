@@ -3,12 +3,14 @@ use Rattle.scfs_base.specs.declared.naming.RequestNo.{RequestNo}
 use Rattle.scfs_base.specs.declared.cloud.CloudRequest.{CloudRequest}
 use Rattle.scfs_base.specs.declared.cloud.CloudAnswer.{CloudAnswer}
 use Rattle.scfs_policy.specs.declared.rank.RankFacts.{RankFacts}
+use Rattle.scfs_lease.specs.declared.leases.Lease.{Lease}
 use Rattle.scfs_schedule.specs.declared.types.Call.{Call}
 use Rattle.scfs_session.specs.declared.sessions.Session.{Session}
 use Rattle.scfs_session.specs.Open.{OpenSessions}
 use Rattle.scfs_machine.specs.Lists.{below}
 use Rattle.scfs_machine.specs.Names.{request_no}
 use Rattle.scfs_machine.specs.Format.{Setup, clouds_of}
+use Rattle.scfs_machine.specs.Lives.{Life, Ready}
 use Rattle.scfs_machine.specs.Asked.{Asked, asked_of}
 use Rattle.scfs_machine.specs.Steps.{Step, Outcome}
 use Rattle.scfs_machine.specs.Reading.{Reading}
@@ -46,12 +48,15 @@ pub record Request (V : Type 0) : Type 0 where
   pub number : RequestNo
   pub step : Step V
 
--- an agent: its unanswered call, its open sessions, its closed ones in the order of their closes, the steps that it asked and was not
--- told, how often each cloud was good and bad to its opens, its incarnation, and how many requests, sessions, files and uploads it drew
+-- an agent: its life, its unanswered call, its open sessions, its closed ones in the order of their closes, the locks of its sessions as
+-- it was told them last, the steps that it asked and was not told, how often each cloud was good and bad to its opens, its incarnation,
+-- and how many requests, sessions, files and uploads it drew in it
 pub record Agent (V : Type 0) : Type 0 where
+  pub life : Life
   pub waiting : Option (Waiting V)
   pub sessions : OpenSessions
   pub closed : List (Closed V)
+  pub leases : List Lease
   pub pending : List (Request V)
   pub tallies : List RankFacts
   pub incarnation : ℕ
@@ -60,15 +65,21 @@ pub record Agent (V : Type 0) : Type 0 where
   pub files : ℕ
   pub uploads : ℕ
 
+-- no cloud was good or bad yet
+abbrev pub no_tallies : Setup → List RankFacts
+no_tallies s = map (λ c. record { cloud = c; good = 0; bad = 0 }) (below (clouds_of s))
+
 -- before a run
 abbrev pub first_agent : {V : Type 0} → Setup → Agent V
 first_agent s =
     record {
+      life = Ready;
       waiting = None;
       sessions = [];
       closed = [];
+      leases = [];
       pending = [];
-      tallies = map (λ c. record { cloud = c; good = 0; bad = 0 }) (below (clouds_of s));
+      tallies = no_tallies s;
       incarnation = 0;
       requests = 0;
       opens = 0;
@@ -86,6 +97,9 @@ pub data Input (V : Type 0) : Type 0 where
   Hears : (cloud : ℕ) → RequestNo → CloudAnswer → Input V
   -- a turn
   Turns : Input V
+  -- it goes down, and comes up
+  Crashes : Input V
+  Starts : Input V
 
 -- a request to a cloud
 pub record Sent : Type 0 where

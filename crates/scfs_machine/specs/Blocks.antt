@@ -10,7 +10,7 @@ use Rattle.scfs_unit.specs.Clash as unit
 use Rattle.scfs_machine.specs.UnitFormat.{under}
 use Rattle.scfs_machine.specs.History.{Message, Of_request, Of_answer, Entry, History}
 use Rattle.scfs_machine.specs.Agents.{Sent}
-use Rattle.scfs_machine.specs.Events.{Place, Agent_has, Space_has, Cloud_has, Nowhere, Request_answered, Answer_given, Message_moved, place_of}
+use Rattle.scfs_machine.specs.Events.{Place, Agent_has, Space_has, Cloud_has, Clock_has, Request_answered, Answer_given, Message_moved, place_of}
 use Rattle.scfs_machine.specs.Layers.{rows}
 use Rattle.scfs_machine.specs.Runs.{effect_after}
 
@@ -45,7 +45,7 @@ blocks_at f message (Space_has a x) = []
 blocks_at f message (Cloud_has c Request_answered) = blocks_made f c message
 blocks_at f message (Cloud_has c Answer_given) = []
 blocks_at f message (Cloud_has c Message_moved) = []
-blocks_at f message Nowhere = []
+blocks_at f message (Clock_has ticks) = []
 
 -- those of an event after a history
 abbrev pub new_blocks : Header → History → Entry → List (List ℕ)

@@ -10,6 +10,7 @@ use Rattle.scfs_machine.specs.Lists.{if_some}
 use Rattle.scfs_machine.specs.Names.{file_id}
 use Rattle.scfs_machine.specs.Paths.{names_of}
 use Rattle.scfs_machine.specs.Format.{Setup}
+use Rattle.scfs_machine.specs.Lives.{is_ready}
 use Rattle.scfs_machine.specs.Walks.{OrRefusal}
 use Rattle.scfs_machine.specs.NameSteps.{Make, Look}
 use Rattle.scfs_machine.specs.SessionSteps.{Session_step, Open_read, Open_write}
@@ -104,7 +105,7 @@ module _ {V : Type 0} (a : ℕ) where
   called s agent (calls.Collect path) = silent agent
   called s agent calls.Purge = silent agent
 
-  -- a call that comes while another is unanswered is refused
+  -- a call that comes while another is unanswered is refused, and so is one that comes before the agent is ready
   abbrev pub call_of : Setup → Agent V → Call → Option (Waiting V) → Reaction V
-  call_of s agent call None = called s agent call
+  call_of s agent call None = if is_ready agent.life then called s agent call else refuse agent (refusals.Starting 0)
   call_of s agent call (Some waiting) = refuse agent refusals.Busy

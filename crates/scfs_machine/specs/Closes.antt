@@ -13,6 +13,7 @@ use Rattle.scfs_machine.specs.Steps.{On_locks, On_sessions}
 use Rattle.scfs_machine.specs.Next.{Next, Goes_on, Asks, Has, Gives_up}
 use Rattle.scfs_machine.specs.Storing.{Storing, is_new_ack, with_ack, store_on, store_turn}
 use Rattle.scfs_machine.specs.Sayings as says
+use Rattle.scfs_machine.specs.Leases.{unleased}
 use Rattle.scfs_machine.specs.Agents.{Upload, Closed, Agent, Reaction, silent, answered, followed, asks_step, next_asked, asks_clouds}
 
 -- The first closed session is uploaded. Below, the agent is given without it.
@@ -36,7 +37,7 @@ module _ {V : Type 0} (s : Setup) (a : ℕ) where
   -- it is given up: the call that closed it is answered, and its lock is given back
   abbrev pub falls_short : Agent V → Closed V → (acks : ℕ) → Reaction V
   falls_short agent x acks =
-      followed (answered agent (says.Refuses (refusals.Short acks))) (λ next. asks_step a next (On_locks (Unlock x.session.file x.number)))
+      followed (answered (unleased agent x.number) (says.Refuses (refusals.Short acks))) (λ next. asks_step a next (On_locks (Unlock x.session.file x.number)))
 
   -- what becomes of it
   abbrev pub stores : Agent V → Closed V → Upload V → Next (Unit {0}) → Reaction V

@@ -7,6 +7,8 @@ use Rattle.scfs_schedule.specs.declared.types.Event.TheVariants as events
 pub data At_agent : Type 0 where
   Call_comes : Call → At_agent
   Turn_comes : At_agent
+  Crash_comes : At_agent
+  Start_comes : At_agent
 
 pub data At_space : Type 0 where
   -- its oldest step is served, or goes to the back; its oldest reply is told
@@ -27,8 +29,8 @@ pub data Place : Type 0 where
   Agent_has : (a : ℕ) → At_agent → Place
   Space_has : (a : ℕ) → At_space → Place
   Cloud_has : (c : ℕ) → At_cloud → Place
-  -- the event is not built yet
-  Nowhere : Place
+  -- so many ticks go by
+  Clock_has : (ticks : ℕ) → Place
 
 abbrev pub place_of : Event → Place
 place_of (events.Call a call) = Agent_has a (Call_comes call)
@@ -47,6 +49,6 @@ place_of (events.Defer c) = Cloud_has c Message_moved
 place_of (events.Swap c) = Cloud_has c Message_moved
 place_of (events.Again c) = Cloud_has c Message_moved
 place_of (events.Twice c) = Cloud_has c Message_moved
-place_of (events.Tick ticks) = Nowhere
-place_of (events.Crash a) = Nowhere
-place_of (events.Start a) = Nowhere
+place_of (events.Crash a) = Agent_has a Crash_comes
+place_of (events.Start a) = Agent_has a Start_comes
+place_of (events.Tick ticks) = Clock_has ticks

@@ -31,11 +31,12 @@ pub record Version_seen : Type 0 where
   pub number : ℕ
   pub close : Close_seen
 
--- what was seen of an agent: the bytes of each of its sessions, by the session's number; its latest close; and the reading from the
--- clouds of the version in its latest sight
+-- what was seen of an agent: its incarnation; the bytes of each of its sessions, by the session's number; its latest close in each
+-- incarnation; and the reading from the clouds of the version in its latest sight
 pub record Agent_seen : Type 0 where
+  pub incarnation : ℕ
   pub bytes : (h : ℕ) → List ℕ
-  pub close : Close_seen
+  pub close : (incarnation : ℕ) → Close_seen
   pub reading : Reading
 
 -- what was seen so far: of each agent, by its number; and the versions, in the order in which they were completed
@@ -56,12 +57,16 @@ new_reading s y =
       turns = 0;
     }
 
--- before an agent's first close
-abbrev pub no_close : (a : ℕ) → Close_seen
-no_close a = record { upload = upload_no a 0 0; bytes = [] }
+-- before an agent's first close in an incarnation
+abbrev pub no_close : (a incarnation : ℕ) → Close_seen
+no_close a incarnation = record { upload = upload_no a incarnation 0; bytes = [] }
 
 abbrev pub nothing_seen : Setup → Seen
-nothing_seen s = record { agents = λ a. record { bytes = λ h. []; close = no_close a; reading = new_reading s (no_close a) }; versions = [] }
+nothing_seen s =
+    record {
+      agents = λ a. record { incarnation = 0; bytes = λ h. []; close = no_close a; reading = new_reading s (no_close a 0) };
+      versions = [];
+    }
 
 -- what stands at each number, with this at one of them
 abbrev pub set_at : {X : Type 0} → (ℕ → X) → (n : ℕ) → X → ℕ → X
@@ -81,7 +86,7 @@ abbrev pub is_version : FileId → (number : ℕ) → Version_seen → Bool
 is_version file number v = same_file v.file file && (v.number == number)
 
 abbrev pub reading_of : Setup → List Version_seen → FileId → (number : ℕ) → Reading
-reading_of s versions file number = new_reading s (if_some (find (is_version file number) versions) (no_close 0) (λ (v : Version_seen). v.close))
+reading_of s versions file number = new_reading s (if_some (find (is_version file number) versions) (no_close 0 0) (λ (v : Version_seen). v.close))
 
 -- a Get that was asked
 abbrev pub with_get : RequestNo → (c : ℕ) → Reading → Reading
@@ -111,29 +116,36 @@ edited (events.Call a (calls.Write h offset new)) bytes = written bytes offset n
 edited (events.Call a (calls.Truncate h size)) bytes = resized bytes size
 edited other bytes = bytes
 
--- what is seen after a line of an event. An agent's close is answered before its next call, so the version that is completed on its
--- request is its latest close
+-- the close of a session: an agent's uploads in an incarnation are numbered as its closes
+abbrev pub with_close : (a h : ℕ) → Agent_seen → Agent_seen
+with_close a h y =
+    let upload = upload_no a y.incarnation ((y.close y.incarnation).upload.count + 1) in
+    record y { close = set_at y.close y.incarnation (record { upload = upload; bytes = y.bytes h }) }
+
+abbrev pub with_incarnation : (incarnation : ℕ) → Agent_seen → Agent_seen
+with_incarnation incarnation y = record y { incarnation = incarnation }
+
+-- what is seen after a line of an event. An agent's close is answered, or lost in a crash, before its next call, so the version that is
+-- completed on its request is its latest close in the incarnation that asked
 abbrev pub seen_line : Setup → Event → Option Message → Seen → Line → Seen
 seen_line s event message x (lines.Opened a h number source size) = of_agent a (λ y. with_bytes h (bytes_opened s y.reading source) y) x
 seen_line s event message x (lines.OkWrite a h size) = of_agent a (λ y. with_bytes h (edited event (y.bytes h)) y) x
 seen_line s event message x (lines.OkTruncate a h size) = of_agent a (λ y. with_bytes h (edited event (y.bytes h)) y) x
 seen_line s event message x (lines.Committed request file number) =
-    record x { versions = x.versions ++ (record { file = file; number = number; close = (x.agents request.agent).close }) ∷ [] }
+    record x { versions = x.versions ++ (record { file = file; number = number; close = (x.agents request.agent).close request.incarnation }) ∷ [] }
 seen_line s event message x (lines.Saw request file number) =
     of_agent request.agent (with_reading (λ r. reading_of s x.versions file number)) x
 seen_line s event message x (lines.Get request c name) = of_agent request.agent (with_reading (with_get request c)) x
 seen_line s event message x (lines.Gave c request sum) = of_agent request.agent (with_reading (after_message s c request message)) x
+seen_line s event message x (lines.Started a incarnation) = of_agent a (with_incarnation incarnation) x
 seen_line s event message x other = x
 
--- whether a line answers a close at once: it is refused, or that of a session that reads
+-- whether a line says that a close closes no session that writes: it is refused, or that of a session that reads, or skipped
 abbrev pub is_answer : Line → Bool
+is_answer lines.Skip = true
 is_answer (lines.No a why) = true
 is_answer (lines.OkClose a h) = true
 is_answer other = false
-
--- the close of a session: an agent's uploads are numbered as its closes
-abbrev pub with_close : (a h : ℕ) → Agent_seen → Agent_seen
-with_close a h y = record y { close = record { upload = upload_no a 0 (y.close.upload.count + 1); bytes = y.bytes h } }
 
 -- what is seen where an event with these lines begins: the close of a session that writes
 abbrev pub seen_event : Event → List Line → Seen → Seen

@@ -14,12 +14,14 @@ pub mod Reading
 pub mod Storing
 pub mod Tree
 pub mod Walks
+pub mod Lives
 pub mod NameSteps
 pub mod LockSteps
 pub mod SessionSteps
 pub mod Steps
 pub mod Sayings
 pub mod Agents
+pub mod Leases
 pub mod Opens
 pub mod Closes
 pub mod Told

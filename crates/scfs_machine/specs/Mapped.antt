@@ -7,7 +7,7 @@ use Rattle.scfs_machine.specs.Tree.{Tree}
 use Rattle.scfs_machine.specs.Walks.{on_ok}
 use Rattle.scfs_machine.specs.SessionSteps.{Session_step, Open_read, Open_write, Commit, Sight, Session_outcome, Sees, Locks, Completes}
 use Rattle.scfs_machine.specs.Steps.{Step, On_names, On_locks, On_sessions, Outcome, Of_names, Of_locks, Of_sessions, Served}
-use Rattle.scfs_machine.specs.Agents.{Opening, Waiting, For_step, For_clouds, For_close, Upload, Closed, Request, Agent, Input, Calls, Tells, Hears, Turns, Reaction}
+use Rattle.scfs_machine.specs.Agents.{Opening, Waiting, For_step, For_clouds, For_close, Upload, Closed, Request, Agent, Input, Calls, Tells, Hears, Turns, Crashes, Starts, Reaction}
 use Rattle.scfs_machine.specs.Opens.{Found, As_empty, On_clouds}
 use Rattle.scfs_machine.specs.States.{Reply, Seat, State, Effect}
 
@@ -75,9 +75,11 @@ module _ {V W : Type 0} (g : V → W) where
   abbrev pub agent : Agent V → Agent W
   agent a =
       record {
+        life = a.life;
         waiting = waiting a.waiting;
         sessions = a.sessions;
         closed = map closed a.closed;
+        leases = a.leases;
         pending = map request a.pending;
         tallies = a.tallies;
         incarnation = a.incarnation;
@@ -95,6 +97,8 @@ module _ {V W : Type 0} (g : V → W) where
   input (Tells number o) = Tells number (outcome o)
   input (Hears c number answer) = Hears c number answer
   input Turns = Turns
+  input Crashes = Crashes
+  input Starts = Starts
 
   abbrev pub reply : Reply V → Reply W
   reply r = record { number = r.number; outcome = outcome r.outcome }

@@ -47,7 +47,7 @@ after_saw a latest (lines.Saw request file number) =
 after_saw a latest other = latest
 
 -- the latest saw line of an agent. An opened line belongs to this one: an open says its saw line when it is told its sight, an agent has
--- one call at a time, and so no other open of it says a saw line before this one is opened or refused
+-- one call at a time, and so no other open of it says a saw line before this one is opened, refused or lost in a crash
 abbrev pub latest_saw : (a : ℕ) → History → Option Saw_line
 latest_saw a [] = None
 latest_saw a (e ∷ past) = fold (after_saw a) (latest_saw a past) e.lines

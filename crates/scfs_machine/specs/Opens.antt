@@ -20,6 +20,7 @@ use Rattle.scfs_machine.specs.Steps.{On_locks}
 use Rattle.scfs_machine.specs.Next.{Next, Goes_on, Asks, Has, Gives_up}
 use Rattle.scfs_machine.specs.Reading.{piece_in, is_awaited, with_piece, read_on, read_turn}
 use Rattle.scfs_machine.specs.Sayings as says
+use Rattle.scfs_machine.specs.Leases.{unleased}
 use Rattle.scfs_machine.specs.Agents.{Opening, For_clouds, Agent, Reaction, silent, saying, answered, followed, ranking, asks_step, next_asked, asks_clouds}
 
 -- An open, from its sight on. Where it is answered, asks clouds or goes on, the agent's unanswered call, which is the open, is set anew.
@@ -91,7 +92,7 @@ module _ {V : Type 0} (s : Setup) (vs : Versions V) (a : ℕ) where
   -- an open from the clouds is given up; its lock, if it has one, is given back, for which nothing waits
   abbrev pub gives_up : Agent V → Opening V → (good : ℕ) → Reaction V
   gives_up agent o good =
-      followed (answered agent (says.Refuses (refusals.Unavailable (vs.number o.version) good)))
+      followed (answered (unleased agent o.session) (says.Refuses (refusals.Unavailable (vs.number o.version) good)))
       (λ next. if o.writes then asks_step a next (On_locks (Unlock (vs.file o.version) o.session)) else silent next)
 
   -- what becomes of an open from the clouds

@@ -1,16 +1,31 @@
-use Rattle.std.specs.Prelude.{ℕ, List, [], ◌∷◌, Option, Some, None}
+use Rattle.std.specs.Prelude.{ℕ, ◌+◌, List, [], ◌∷◌, Option, Some, None}
 use Rattle.scfs_base.specs.declared.naming.RequestNo.{RequestNo}
 use Rattle.scfs_base.specs.declared.cloud.CloudAnswer.{CloudAnswer}
 use Rattle.scfs_machine.specs.Format.{Setup}
 use Rattle.scfs_machine.specs.Versions.{Versions}
 use Rattle.scfs_machine.specs.Given.{Given}
-use Rattle.scfs_machine.specs.Agents.{Opening, Waiting, For_step, For_clouds, For_close, Upload, Closed, Agent, Input, Calls, Tells, Hears, Turns, Reaction, silent, followed}
+use Rattle.scfs_machine.specs.Lives.{Down, Starting}
+use Rattle.scfs_machine.specs.LockSteps.{Unlock_all}
+use Rattle.scfs_machine.specs.Steps.{On_locks}
+use Rattle.scfs_machine.specs.Sayings as says
+use Rattle.scfs_machine.specs.Agents.{Opening, Waiting, For_step, For_clouds, For_close, Upload, Closed, Agent, no_tallies, Input, Calls, Tells, Hears, Turns, Crashes, Starts, Reaction, silent, saying, followed, asks_step}
+use Rattle.scfs_machine.specs.Leases.{renews_due}
 use Rattle.scfs_machine.specs.Calls.{call_of}
 use Rattle.scfs_machine.specs.Opens.{open_hears, open_turns}
 use Rattle.scfs_machine.specs.Closes.{begins, upload_hears, upload_turns}
 use Rattle.scfs_machine.specs.Told.{tells}
 
 -- What an agent does on an input.
+
+-- a crash loses an agent's unanswered call, its sessions with their uploads and locks, what it waits for, and how good the clouds were
+abbrev pub crashed : {V : Type 0} → Setup → Agent V → Agent V
+crashed s agent =
+    record agent { life = Down; waiting = None; sessions = []; closed = []; leases = []; pending = []; tallies = no_tallies s }
+
+-- the next incarnation has drawn nothing yet
+abbrev pub next_life : {V : Type 0} → Agent V → Agent V
+next_life agent =
+    record agent { life = Starting; incarnation = agent.incarnation + 1; requests = 0; opens = 0; files = 0; uploads = 0 }
 
 module _ {V : Type 0} where
   -- without its unanswered call
@@ -42,15 +57,27 @@ module _ {V : Type 0} (s : Setup) (vs : Versions V) (a : ℕ) where
   hears agent c request answer =
       to_work agent (λ next o. open_hears s vs a next o c request answer) (λ next x u. upload_hears s a next x u c request answer)
 
-  abbrev pub turns : Agent V → Reaction V
-  turns agent = to_work agent (open_turns s vs a) (upload_turns s a)
+  -- first the locks are renewed that are due
+  abbrev pub turns : Agent V → Given → Reaction V
+  turns agent given =
+      followed (renews_due vs a agent given.now s.header.lease) (λ next. to_work next (open_turns s vs a) (upload_turns s a))
+
+  abbrev pub crashes : Agent V → Reaction V
+  crashes agent = saying (crashed s agent) says.Crashed
+
+  -- all locks of the agent are to be given back
+  abbrev pub starts : Agent V → Reaction V
+  starts agent =
+      let up = next_life agent in followed (saying up (says.Started up.incarnation)) (λ next. asks_step a next (On_locks Unlock_all))
 
   -- what an input asks for
   abbrev pub responded : Agent V → Given → Input V → Reaction V
   responded agent given (Calls call) = call_of a s agent call agent.waiting
   responded agent given (Tells request o) = tells s vs a agent given request o
   responded agent given (Hears c request answer) = hears agent c request answer
-  responded agent given Turns = turns agent
+  responded agent given Turns = turns agent given
+  responded agent given Crashes = crashes agent
+  responded agent given Starts = starts agent
 
   abbrev pub begun : Agent V → (rest : List (Closed V)) → Closed V → Option (Upload V) → Reaction V
   begun agent rest x None = begins s vs a (record agent { closed = rest }) x

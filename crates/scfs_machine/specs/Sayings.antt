@@ -23,6 +23,12 @@ pub data Saying : Type 0 where
   Ended : (session : ℕ) → Saying
   Stored : (session number : ℕ) → Saying
   Refuses : Refusal → Saying
+  -- a renewal of the lock of a session was refused
+  Lapsed : (session : ℕ) → Saying
+  -- it goes down; it comes up in a new incarnation; it takes calls again
+  Crashed : Saying
+  Started : (incarnation : ℕ) → Saying
+  Ready : Saying
 
 -- the line in which agent a says it
 abbrev pub said_by : (a : ℕ) → Saying → Line
@@ -36,3 +42,7 @@ said_by a (Truncated session size) = lines.OkTruncate a session size
 said_by a (Ended session) = lines.OkClose a session
 said_by a (Stored session number) = lines.Closed a session number
 said_by a (Refuses why) = lines.No a why
+said_by a (Lapsed session) = lines.Lapsed a session
+said_by a Crashed = lines.Crashed a
+said_by a (Started incarnation) = lines.Started a incarnation
+said_by a Ready = lines.Ready a

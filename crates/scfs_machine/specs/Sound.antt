@@ -6,7 +6,7 @@ use Rattle.scfs_machine.specs.History.{Message, Of_request, Of_answer, History}
 use Rattle.scfs_machine.specs.Next.{Next, Goes_on, Asks, Has, Gives_up}
 use Rattle.scfs_machine.specs.Reading.{is_awaited, piece_in, read_on}
 use Rattle.scfs_machine.specs.Agents.{Waiting, For_step, For_clouds, For_close}
-use Rattle.scfs_machine.specs.Events.{Place, Agent_has, Space_has, Cloud_has, Nowhere, Request_answered, Answer_given, Message_moved, place_of}
+use Rattle.scfs_machine.specs.Events.{Place, Agent_has, Space_has, Cloud_has, Clock_has, Request_answered, Answer_given, Message_moved, place_of}
 use Rattle.scfs_machine.specs.States.{Seat, State}
 use Rattle.scfs_machine.specs.Layers.{Version}
 use Rattle.scfs_machine.specs.Runs.{mapped}
@@ -44,7 +44,7 @@ module _ {V : Type 0} (s : Setup) (Fits : V → (bytes : List ℕ) → Type 0) w
   FitsPlace state message (Cloud_has c Request_answered) = Unit {0}
   FitsPlace state message (Cloud_has c Answer_given) = FitsGiven state c message
   FitsPlace state message (Cloud_has c Message_moved) = Unit {0}
-  FitsPlace state message Nowhere = Unit {0}
+  FitsPlace state message (Clock_has ticks) = Unit {0}
 
 -- what came is what was closed
 abbrev pub WasClosed : Version → (bytes : List ℕ) → Type 0

@@ -1,4 +1,4 @@
-use Rattle.std.specs.Prelude.{ℕ, List, [], ◌∷◌, ◌++◌, length, map, replicate, Option, Some, None, slice_get, slice_set}
+use Rattle.std.specs.Prelude.{ℕ, ◌+◌, Bool, not, ◌&&◌, ◌==◌, if◌then◌else◌, List, [], ◌∷◌, ◌++◌, length, map, replicate, Option, Some, None, slice_get, slice_set}
 use Rattle.scfs_base.specs.declared.naming.RequestNo.{RequestNo}
 use Rattle.scfs_base.specs.declared.cloud.CloudAnswer.{CloudAnswer}
 use Rattle.scfs_base.specs.declared.cloud.CloudAnswer.TheVariants as answers
@@ -18,9 +18,10 @@ use Rattle.scfs_machine.specs.Given.{Given}
 use Rattle.scfs_machine.specs.Tree.{Tree, empty_tree, live}
 use Rattle.scfs_machine.specs.Steps.{Outcome, served, served_line}
 use Rattle.scfs_machine.specs.Sayings.{said_by}
-use Rattle.scfs_machine.specs.Agents.{Request, Agent, first_agent, Input, Calls, Tells, Hears, Turns, Sent, Reaction}
+use Rattle.scfs_machine.specs.Lives.{is_up}
+use Rattle.scfs_machine.specs.Agents.{Request, Agent, first_agent, Input, Calls, Tells, Hears, Turns, Crashes, Starts, Sent, Reaction}
 use Rattle.scfs_machine.specs.Reactions.{reacted}
-use Rattle.scfs_machine.specs.Events.{At_agent, Call_comes, Turn_comes, At_space, Step_served, Step_postponed, Reply_told, At_cloud, Request_answered, Answer_given, Message_moved, Place, Agent_has, Space_has, Cloud_has, Nowhere, place_of}
+use Rattle.scfs_machine.specs.Events.{At_agent, Call_comes, Turn_comes, Crash_comes, Start_comes, At_space, Step_served, Step_postponed, Reply_told, At_cloud, Request_answered, Answer_given, Message_moved, Place, Agent_has, Space_has, Cloud_has, Clock_has, place_of}
 
 -- a step that the space served, with what it came to
 pub record Reply (V : Type 0) : Type 0 where
@@ -84,6 +85,10 @@ module _ {V : Type 0} where
   abbrev pub at_seat : State V → (a : ℕ) → (Seat V → Effect V) → Effect V
   at_seat state a on = if_some (slice_get state.seats a) (leaving state []) on
 
+  -- whether an agent is told the reply to a request: it is up, in the incarnation that asked
+  abbrev pub is_there : Agent V → RequestNo → Bool
+  is_there agent request = is_up agent.life && (agent.incarnation == request.incarnation)
+
   -- the oldest step at the seat goes to the back
   abbrev pub postpones : State V → (a : ℕ) → Seat V → List (Request V) → Effect V
   postpones state a seat [] = skips state
@@ -116,6 +121,15 @@ module _ {V : Type 0} (s : Setup) (vs : Versions V) where
   abbrev pub comes : State V → (a : ℕ) → Given → List Line → Input V → Seat V → Effect V
   comes state a given before input seat = did s state a seat before (reacted s vs a seat.agent given input)
 
+  -- where the agent at seat a can have it, an input comes to it
+  abbrev pub comes_if : Bool → State V → (a : ℕ) → Given → Input V → Seat V → Effect V
+  comes_if can state a given input seat = if can then comes state a given [] input seat else skips state
+
+  -- a reply to a request comes to the agent at seat a, or it is gone
+  abbrev pub comes_back : State V → (a : ℕ) → Given → RequestNo → List Line → Input V → Seat V → Effect V
+  comes_back state a given request before input seat =
+      if is_there seat.agent request then comes state a given before input seat else leaving (with_seat state a seat) (lines.Gone request ∷ [])
+
   -- the space serves the oldest step at seat a
   abbrev pub serves : State V → (a : ℕ) → Seat V → List (Request V) → Effect V
   serves state a seat [] = skips state
@@ -129,7 +143,8 @@ module _ {V : Type 0} (s : Setup) (vs : Versions V) where
   -- the agent at seat a is told the oldest reply
   abbrev pub tells : State V → (a : ℕ) → Given → Seat V → List (Reply V) → Effect V
   tells state a given seat [] = skips state
-  tells state a given seat (oldest ∷ rest) = comes state a given [] (Tells oldest.number oldest.outcome) (record seat { replied = rest })
+  tells state a given seat (oldest ∷ rest) =
+      comes_back state a given oldest.number [] (Tells oldest.number oldest.outcome) (record seat { replied = rest })
 
   -- the agent that asked is given a cloud's oldest answer
   abbrev pub gives : State V → Given → (c : ℕ) → Option Message → Effect V
@@ -137,11 +152,13 @@ module _ {V : Type 0} (s : Setup) (vs : Versions V) where
   gives state given c (Some (Of_request request)) = leaving state []
   gives state given c (Some (Of_answer request answer)) =
       at_seat state request.agent
-      (comes state request.agent given (lines.Gave c request (sum_of s answer) ∷ []) (Hears c request answer))
+      (comes_back state request.agent given request (lines.Gave c request (sum_of s answer) ∷ []) (Hears c request answer))
 
   abbrev pub at_agent : State V → Given → (a : ℕ) → At_agent → Seat V → Effect V
-  at_agent state given a (Call_comes call) seat = comes state a given [] (Calls call) seat
-  at_agent state given a Turn_comes seat = comes state a given [] Turns seat
+  at_agent state given a (Call_comes call) seat = comes_if (is_up seat.agent.life) state a given (Calls call) seat
+  at_agent state given a Turn_comes seat = comes_if (is_up seat.agent.life) state a given Turns seat
+  at_agent state given a Crash_comes seat = comes_if (is_up seat.agent.life) state a given Crashes seat
+  at_agent state given a Start_comes seat = comes_if (not (is_up seat.agent.life)) state a given Starts seat
 
   abbrev pub at_space : State V → Given → (a : ℕ) → At_space → Seat V → Effect V
   at_space state given a Step_served seat = serves state a seat seat.asked
@@ -157,7 +174,7 @@ module _ {V : Type 0} (s : Setup) (vs : Versions V) where
   at_place state message given (Agent_has a x) = at_seat state a (at_agent state given a x)
   at_place state message given (Space_has a x) = at_seat state a (at_space state given a x)
   at_place state message given (Cloud_has c x) = at_cloud state message given c x
-  at_place state message given Nowhere = leaving state []
+  at_place state message given (Clock_has ticks) = leaving (record state { clock = state.clock + ticks }) []
 
   -- what an event does, where the cloud's message is this and it is given this
   abbrev pub effect : State V → Event → (message : Option Message) → Given → Effect V

@@ -43,7 +43,8 @@ module _ {V : Type 0} (vs : Versions V) where
       let r = name_outcome tree.nodes x in
       record { outcome = Of_names x r; tree = record tree { nodes = after_ok tree.nodes (nodes_after tree.nodes) r } }
   served tree now lease request (On_locks x) =
-      record { outcome = Of_locks x (lock_outcome tree.locks request x); tree = record tree { locks = locks_after tree.locks request x } }
+      let r = lock_outcome tree.locks (now + lease) request x in
+      record { outcome = Of_locks x r; tree = record tree { locks = after_ok tree.locks (locks_after tree.locks request x) r } }
   served tree now lease request (On_sessions x) =
       let r = session_outcome vs tree now (now + lease) request x in
       record { outcome = Of_sessions x r; tree = after_ok tree (session_after vs tree request) r }
