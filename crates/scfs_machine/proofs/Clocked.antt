@@ -46,7 +46,8 @@ too_late =
 
 abbrev pub too_late_lines : List (List Line)
 too_late_lines =
-    acked_lines ++ [] ∷ (lines.Refused (request_no 0 0 7) refusals.LockLost ∷ []) ∷ (lines.No 0 refusals.LockLost ∷ []) ∷ (lines.No 0 refusals.BadHandle ∷ []) ∷ [] ∷ []
+    acked_lines ++ [] ∷ (lines.Refused (request_no 0 0 7) refusals.LockLost ∷ []) ∷ (lines.No 0 refusals.LockLost ∷ [])
+    ∷ (lines.No 0 refusals.BadHandle ∷ []) ∷ [] ∷ []
 
 too_late_made : lines_of (setup 1 2) too_late ≡ too_late_lines
 unfolding hex_pair
@@ -60,11 +61,20 @@ too_late_due = refl
 -- until its own end
 abbrev pub taken : List Event
 taken =
-    acked ++ events.Tick 99 ∷ events.Call 1 (calls.OpenW path_a) ∷ events.Space 1 ∷ events.Told 1 ∷ events.Tick 1 ∷ events.Call 1 (calls.OpenW path_a) ∷ events.Space 1 ∷ events.Told 1 ∷ events.Space 0 ∷ events.Told 0 ∷ events.Tick 99 ∷ events.Call 0 (calls.OpenW path_a) ∷ events.Space 0 ∷ events.Told 0 ∷ events.Call 0 (calls.OpenW path_a) ∷ events.Tick 1 ∷ events.Space 0 ∷ events.Told 0 ∷ []
+    acked ++ events.Tick 99 ∷ events.Call 1 (calls.OpenW path_a) ∷ events.Space 1 ∷ events.Told 1 ∷ events.Tick 1
+    ∷ events.Call 1 (calls.OpenW path_a) ∷ events.Space 1 ∷ events.Told 1 ∷ events.Space 0 ∷ events.Told 0 ∷ events.Tick 99
+    ∷ events.Call 0 (calls.OpenW path_a) ∷ events.Space 0 ∷ events.Told 0 ∷ events.Call 0 (calls.OpenW path_a) ∷ events.Tick 1
+    ∷ events.Space 0 ∷ events.Told 0 ∷ []
 
 abbrev pub taken_lines : List (List Line)
 taken_lines =
-    acked_lines ++ [] ∷ [] ∷ (lines.Refused (request_no 1 0 1) (refusals.Locked 0) ∷ []) ∷ (lines.No 1 (refusals.Locked 0) ∷ []) ∷ [] ∷ [] ∷ (lines.Locked (request_no 1 0 2) (file_id 0 0 1) 200 ∷ []) ∷ (lines.Saw (request_no 1 0 2) (file_id 0 0 1) 0 ∷ lines.Opened 1 2 0 srcs.Empty 0 ∷ []) ∷ (lines.Refused (request_no 0 0 7) refusals.LockLost ∷ []) ∷ (lines.No 0 refusals.LockLost ∷ []) ∷ [] ∷ [] ∷ (lines.Refused (request_no 0 0 8) (refusals.Locked 1) ∷ []) ∷ (lines.No 0 (refusals.Locked 1) ∷ []) ∷ [] ∷ [] ∷ (lines.Locked (request_no 0 0 9) (file_id 0 0 1) 300 ∷ []) ∷ (lines.Saw (request_no 0 0 9) (file_id 0 0 1) 0 ∷ lines.Opened 0 3 0 srcs.Empty 0 ∷ []) ∷ []
+    acked_lines ++ [] ∷ [] ∷ (lines.Refused (request_no 1 0 1) (refusals.Locked 0) ∷ []) ∷ (lines.No 1 (refusals.Locked 0) ∷ []) ∷ []
+    ∷ [] ∷ (lines.Locked (request_no 1 0 2) (file_id 0 0 1) 200 ∷ [])
+    ∷ (lines.Saw (request_no 1 0 2) (file_id 0 0 1) 0 ∷ lines.Opened 1 2 0 srcs.Empty 0 ∷ [])
+    ∷ (lines.Refused (request_no 0 0 7) refusals.LockLost ∷ []) ∷ (lines.No 0 refusals.LockLost ∷ []) ∷ [] ∷ []
+    ∷ (lines.Refused (request_no 0 0 8) (refusals.Locked 1) ∷ []) ∷ (lines.No 0 (refusals.Locked 1) ∷ []) ∷ [] ∷ []
+    ∷ (lines.Locked (request_no 0 0 9) (file_id 0 0 1) 300 ∷ [])
+    ∷ (lines.Saw (request_no 0 0 9) (file_id 0 0 1) 0 ∷ lines.Opened 0 3 0 srcs.Empty 0 ∷ []) ∷ []
 
 taken_made : lines_of (setup 1 2) taken ≡ taken_lines
 unfolding hex_pair

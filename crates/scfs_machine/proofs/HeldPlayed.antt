@@ -9,6 +9,7 @@ use Rattle.scfs_machine.proofs.ShortFormat.{setup}
 use Rattle.scfs_machine.proofs.Played.{played}
 use Rattle.scfs_machine.proofs.SharedFile.{hi, begins, commits, read_well}
 use Rattle.scfs_machine.proofs.LyingClouds.{lied, clash}
+use Rattle.scfs_machine.proofs.Starts.{before_unlocking, same_numbers}
 
 abbrev held_after : List Event → (a h : ℕ) → List ℕ
 held_after schedule a h = held (setup 1 2) (played (setup 1 2) [] schedule) a h
@@ -42,3 +43,19 @@ grows =
 grown : held_after grows 0 2 ≡ 0x68 ∷ 0x69 ∷ 0x21 ∷ []
 unfolding hex_pair
 grown = refl
+
+-- after a start, a session with what was committed of the incarnation before
+of_before : held_after before_unlocking 0 1 ≡ hi
+unfolding hex_pair
+of_before = refl
+
+-- one of another agent with what was closed in the new incarnation
+abbrev pub shares : List Event
+shares =
+    same_numbers
+    ++ events.Call 1 (calls.OpenR (0x2f ∷ 0x61 ∷ [])) ∷ events.Space 1 ∷ events.Told 1
+    ∷ events.Serve 0 ∷ events.Give 0 ∷ events.Serve 1 ∷ events.Give 1 ∷ []
+
+of_now : held_after shares 1 1 ≡ 0x6e ∷ 0x6f ∷ []
+unfolding hex_pair
+of_now = refl

@@ -6,6 +6,9 @@ mod LyingClouds
 mod Closes
 mod LocalCalls
 mod Clocked
+mod Renewals
+mod Crashes
+mod Starts
 pub mod ListMaps
 pub mod AgentMaps
 pub mod OpenMaps

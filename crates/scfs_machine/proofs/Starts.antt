@@ -30,11 +30,14 @@ path_c = codes "/c"
 -- a commit that is served after the locks were given back is refused
 abbrev pub after_unlocking : List Event
 after_unlocking =
-    acked ++ events.Crash 0 ∷ events.Start 0 ∷ events.Later 0 ∷ events.Space 0 ∷ events.Space 0 ∷ events.Told 0 ∷ events.Told 0 ∷ events.Call 0 (calls.Stat path_a) ∷ events.Space 0 ∷ events.Told 0 ∷ []
+    acked ++ events.Crash 0 ∷ events.Start 0 ∷ events.Later 0 ∷ events.Space 0 ∷ events.Space 0 ∷ events.Told 0 ∷ events.Told 0
+    ∷ events.Call 0 (calls.Stat path_a) ∷ events.Space 0 ∷ events.Told 0 ∷ []
 
 abbrev pub after_unlocking_lines : List (List Line)
 after_unlocking_lines =
-    acked_lines ++ (lines.Crashed 0 ∷ []) ∷ (lines.Started 0 1 ∷ []) ∷ [] ∷ (lines.Unlocked (request_no 0 1 1) 1 ∷ []) ∷ (lines.Refused (request_no 0 0 7) refusals.LockLost ∷ []) ∷ (lines.Ready 0 ∷ []) ∷ (lines.Gone (request_no 0 0 7) ∷ []) ∷ [] ∷ (lines.Looked (request_no 0 1 2) ∷ []) ∷ (lines.OkStat 0 kinds.File (file_id 0 0 1) 0 0 hows.Fresh ∷ []) ∷ []
+    acked_lines ++ (lines.Crashed 0 ∷ []) ∷ (lines.Started 0 1 ∷ []) ∷ [] ∷ (lines.Unlocked (request_no 0 1 1) 1 ∷ [])
+    ∷ (lines.Refused (request_no 0 0 7) refusals.LockLost ∷ []) ∷ (lines.Ready 0 ∷ []) ∷ (lines.Gone (request_no 0 0 7) ∷ []) ∷ []
+    ∷ (lines.Looked (request_no 0 1 2) ∷ []) ∷ (lines.OkStat 0 kinds.File (file_id 0 0 1) 0 0 hows.Fresh ∷ []) ∷ []
 
 after_unlocking_made : lines_of (setup 1 2) after_unlocking ≡ after_unlocking_lines
 unfolding hex_pair
@@ -47,11 +50,25 @@ after_unlocking_due = refl
 -- one that is served before that is done, and the agent reads the version after its start; a Put of before is served late
 abbrev pub before_unlocking : List Event
 before_unlocking =
-    begins ++ events.Serve 0 ∷ events.Serve 1 ∷ events.Serve 2 ∷ events.Give 0 ∷ events.Give 1 ∷ events.Give 2 ∷ events.Crash 0 ∷ events.Start 0 ∷ events.Space 0 ∷ events.Serve 3 ∷ events.Give 3 ∷ events.Told 0 ∷ events.Space 0 ∷ events.Told 0 ∷ events.Call 0 (calls.OpenR path_a) ∷ events.Space 0 ∷ events.Told 0 ∷ events.Serve 0 ∷ events.Give 0 ∷ events.Serve 1 ∷ events.Give 1 ∷ events.Call 0 (calls.Read 1 0 9) ∷ []
+    begins ++ events.Serve 0 ∷ events.Serve 1 ∷ events.Serve 2 ∷ events.Give 0 ∷ events.Give 1 ∷ events.Give 2 ∷ events.Crash 0
+    ∷ events.Start 0 ∷ events.Space 0 ∷ events.Serve 3 ∷ events.Give 3 ∷ events.Told 0 ∷ events.Space 0 ∷ events.Told 0
+    ∷ events.Call 0 (calls.OpenR path_a) ∷ events.Space 0 ∷ events.Told 0 ∷ events.Serve 0 ∷ events.Give 0 ∷ events.Serve 1
+    ∷ events.Give 1 ∷ events.Call 0 (calls.Read 1 0 9) ∷ []
 
 abbrev pub before_unlocking_lines : List (List Line)
 before_unlocking_lines =
-    begins_lines ++ (lines.Did 0 (request_no 0 0 3) sums.Ack ∷ []) ∷ (lines.Did 1 (request_no 0 0 4) sums.Ack ∷ []) ∷ (lines.Did 2 (request_no 0 0 5) sums.Ack ∷ []) ∷ (lines.Gave 0 (request_no 0 0 3) sums.Ack ∷ []) ∷ (lines.Gave 1 (request_no 0 0 4) sums.Ack ∷ []) ∷ (lines.Gave 2 (request_no 0 0 5) sums.Ack ∷ []) ∷ (lines.Crashed 0 ∷ []) ∷ (lines.Started 0 1 ∷ []) ∷ (lines.Committed (request_no 0 0 7) (file_id 0 0 1) 1 ∷ []) ∷ (lines.Did 3 (request_no 0 0 6) sums.Ack ∷ []) ∷ (lines.Gone (request_no 0 0 6) ∷ []) ∷ (lines.Gone (request_no 0 0 7) ∷ []) ∷ (lines.Unlocked (request_no 0 1 1) 0 ∷ []) ∷ (lines.Ready 0 ∷ []) ∷ [] ∷ (lines.Looked (request_no 0 1 2) ∷ []) ∷ (lines.Saw (request_no 0 1 2) (file_id 0 0 1) 1 ∷ lines.Get (request_no 0 1 3) 0 n1 ∷ lines.Get (request_no 0 1 4) 1 n1 ∷ []) ∷ (lines.Did 0 (request_no 0 1 3) (sums.Bytes 170 (sha_of 0)) ∷ []) ∷ (lines.Gave 0 (request_no 0 1 3) (sums.Bytes 170 (sha_of 0)) ∷ []) ∷ (lines.Did 1 (request_no 0 1 4) (sums.Bytes 170 (sha_of 1)) ∷ []) ∷ (lines.Gave 1 (request_no 0 1 4) (sums.Bytes 170 (sha_of 1)) ∷ lines.Opened 0 1 1 srcs.Clouds 2 ∷ []) ∷ (lines.Data 0 1 hi ∷ []) ∷ []
+    begins_lines ++ (lines.Did 0 (request_no 0 0 3) sums.Ack ∷ []) ∷ (lines.Did 1 (request_no 0 0 4) sums.Ack ∷ [])
+    ∷ (lines.Did 2 (request_no 0 0 5) sums.Ack ∷ []) ∷ (lines.Gave 0 (request_no 0 0 3) sums.Ack ∷ [])
+    ∷ (lines.Gave 1 (request_no 0 0 4) sums.Ack ∷ []) ∷ (lines.Gave 2 (request_no 0 0 5) sums.Ack ∷ []) ∷ (lines.Crashed 0 ∷ [])
+    ∷ (lines.Started 0 1 ∷ []) ∷ (lines.Committed (request_no 0 0 7) (file_id 0 0 1) 1 ∷ [])
+    ∷ (lines.Did 3 (request_no 0 0 6) sums.Ack ∷ []) ∷ (lines.Gone (request_no 0 0 6) ∷ []) ∷ (lines.Gone (request_no 0 0 7) ∷ [])
+    ∷ (lines.Unlocked (request_no 0 1 1) 0 ∷ []) ∷ (lines.Ready 0 ∷ []) ∷ [] ∷ (lines.Looked (request_no 0 1 2) ∷ [])
+    ∷ (lines.Saw (request_no 0 1 2) (file_id 0 0 1) 1 ∷ lines.Get (request_no 0 1 3) 0 n1 ∷ lines.Get (request_no 0 1 4) 1 n1 ∷ [])
+    ∷ (lines.Did 0 (request_no 0 1 3) (sums.Bytes 170 (sha_of 0)) ∷ [])
+    ∷ (lines.Gave 0 (request_no 0 1 3) (sums.Bytes 170 (sha_of 0)) ∷ [])
+    ∷ (lines.Did 1 (request_no 0 1 4) (sums.Bytes 170 (sha_of 1)) ∷ [])
+    ∷ (lines.Gave 1 (request_no 0 1 4) (sums.Bytes 170 (sha_of 1)) ∷ lines.Opened 0 1 1 srcs.Clouds 2 ∷ []) ∷ (lines.Data 0 1 hi ∷ [])
+    ∷ []
 
 before_unlocking_made : lines_of (setup 1 2) before_unlocking ≡ before_unlocking_lines
 unfolding hex_pair
@@ -64,11 +81,25 @@ before_unlocking_due = refl
 -- request numbers begin at 1 again: acknowledgements of the Puts of before, which have the same numbers, count for nobody
 abbrev pub same_numbers : List Event
 same_numbers =
-    begins ++ events.Crash 0 ∷ events.Start 0 ∷ events.Space 0 ∷ events.Told 0 ∷ events.Call 0 (calls.OpenW path_a) ∷ events.Space 0 ∷ events.Told 0 ∷ events.Call 0 (calls.Write 1 0 hi) ∷ events.Call 0 (calls.Close 1) ∷ events.Serve 0 ∷ events.Give 0 ∷ events.Serve 1 ∷ events.Give 1 ∷ events.Serve 2 ∷ events.Give 2 ∷ events.Space 0 ∷ events.Serve 0 ∷ events.Give 0 ∷ events.Serve 1 ∷ events.Give 1 ∷ events.Serve 2 ∷ events.Give 2 ∷ events.Space 0 ∷ events.Told 0 ∷ []
+    begins ++ events.Crash 0 ∷ events.Start 0 ∷ events.Space 0 ∷ events.Told 0 ∷ events.Call 0 (calls.OpenW path_a) ∷ events.Space 0
+    ∷ events.Told 0 ∷ events.Call 0 (calls.Write 1 0 (0x6e ∷ 0x6f ∷ [])) ∷ events.Call 0 (calls.Close 1) ∷ events.Serve 0 ∷ events.Give 0
+    ∷ events.Serve 1 ∷ events.Give 1 ∷ events.Serve 2 ∷ events.Give 2 ∷ events.Space 0 ∷ events.Serve 0 ∷ events.Give 0 ∷ events.Serve 1
+    ∷ events.Give 1 ∷ events.Serve 2 ∷ events.Give 2 ∷ events.Space 0 ∷ events.Told 0 ∷ []
 
 abbrev pub same_numbers_lines : List (List Line)
 same_numbers_lines =
-    begins_lines ++ (lines.Crashed 0 ∷ []) ∷ (lines.Started 0 1 ∷ []) ∷ (lines.Unlocked (request_no 0 1 1) 1 ∷ []) ∷ (lines.Ready 0 ∷ []) ∷ [] ∷ (lines.Locked (request_no 0 1 2) (file_id 0 0 1) 100 ∷ []) ∷ (lines.Saw (request_no 0 1 2) (file_id 0 0 1) 0 ∷ lines.Opened 0 1 0 srcs.Empty 0 ∷ []) ∷ (lines.OkWrite 0 1 2 ∷ []) ∷ (lines.Put (request_no 0 1 3) 0 n2 170 (sha_of 0) ∷ lines.Put (request_no 0 1 4) 1 n2 170 (sha_of 1) ∷ lines.Put (request_no 0 1 5) 2 n2 170 (sha_of 2) ∷ lines.Put (request_no 0 1 6) 3 n2 170 (sha_of 3) ∷ []) ∷ (lines.Did 0 (request_no 0 0 3) sums.Ack ∷ []) ∷ (lines.Gone (request_no 0 0 3) ∷ []) ∷ (lines.Did 1 (request_no 0 0 4) sums.Ack ∷ []) ∷ (lines.Gone (request_no 0 0 4) ∷ []) ∷ (lines.Did 2 (request_no 0 0 5) sums.Ack ∷ []) ∷ (lines.Gone (request_no 0 0 5) ∷ []) ∷ (lines.Skip ∷ []) ∷ (lines.Did 0 (request_no 0 1 3) sums.Ack ∷ []) ∷ (lines.Gave 0 (request_no 0 1 3) sums.Ack ∷ []) ∷ (lines.Did 1 (request_no 0 1 4) sums.Ack ∷ []) ∷ (lines.Gave 1 (request_no 0 1 4) sums.Ack ∷ []) ∷ (lines.Did 2 (request_no 0 1 5) sums.Ack ∷ []) ∷ (lines.Gave 2 (request_no 0 1 5) sums.Ack ∷ []) ∷ (lines.Committed (request_no 0 1 7) (file_id 0 0 1) 1 ∷ []) ∷ (lines.Closed 0 1 1 ∷ []) ∷ []
+    begins_lines ++ (lines.Crashed 0 ∷ []) ∷ (lines.Started 0 1 ∷ []) ∷ (lines.Unlocked (request_no 0 1 1) 1 ∷ []) ∷ (lines.Ready 0 ∷ [])
+    ∷ [] ∷ (lines.Locked (request_no 0 1 2) (file_id 0 0 1) 100 ∷ [])
+    ∷ (lines.Saw (request_no 0 1 2) (file_id 0 0 1) 0 ∷ lines.Opened 0 1 0 srcs.Empty 0 ∷ []) ∷ (lines.OkWrite 0 1 2 ∷ [])
+    ∷ (lines.Put (request_no 0 1 3) 0 n2 170 (sha_of 0) ∷ lines.Put (request_no 0 1 4) 1 n2 170 (sha_of 1)
+    ∷ lines.Put (request_no 0 1 5) 2 n2 170 (sha_of 2) ∷ lines.Put (request_no 0 1 6) 3 n2 170 (sha_of 3) ∷ [])
+    ∷ (lines.Did 0 (request_no 0 0 3) sums.Ack ∷ []) ∷ (lines.Gone (request_no 0 0 3) ∷ [])
+    ∷ (lines.Did 1 (request_no 0 0 4) sums.Ack ∷ []) ∷ (lines.Gone (request_no 0 0 4) ∷ [])
+    ∷ (lines.Did 2 (request_no 0 0 5) sums.Ack ∷ []) ∷ (lines.Gone (request_no 0 0 5) ∷ []) ∷ (lines.Skip ∷ [])
+    ∷ (lines.Did 0 (request_no 0 1 3) sums.Ack ∷ []) ∷ (lines.Gave 0 (request_no 0 1 3) sums.Ack ∷ [])
+    ∷ (lines.Did 1 (request_no 0 1 4) sums.Ack ∷ []) ∷ (lines.Gave 1 (request_no 0 1 4) sums.Ack ∷ [])
+    ∷ (lines.Did 2 (request_no 0 1 5) sums.Ack ∷ []) ∷ (lines.Gave 2 (request_no 0 1 5) sums.Ack ∷ [])
+    ∷ (lines.Committed (request_no 0 1 7) (file_id 0 0 1) 1 ∷ []) ∷ (lines.Closed 0 1 1 ∷ []) ∷ []
 
 same_numbers_made : lines_of (setup 1 2) same_numbers ≡ same_numbers_lines
 unfolding hex_pair
@@ -81,11 +112,24 @@ same_numbers_due = refl
 -- all locks of the agent are given back, and none of another agent
 abbrev pub all_of_one_agent : List Event
 all_of_one_agent =
-    opened ++ events.Call 0 (calls.Create path_b) ∷ events.Space 0 ∷ events.Told 0 ∷ events.Call 0 (calls.OpenW path_b) ∷ events.Space 0 ∷ events.Told 0 ∷ events.Call 1 (calls.Create path_c) ∷ events.Space 1 ∷ events.Told 1 ∷ events.Call 1 (calls.OpenW path_c) ∷ events.Space 1 ∷ events.Told 1 ∷ events.Crash 0 ∷ events.Start 0 ∷ events.Space 0 ∷ events.Told 0 ∷ events.Call 0 (calls.OpenW path_c) ∷ events.Space 0 ∷ events.Told 0 ∷ events.Call 0 (calls.OpenW path_b) ∷ events.Space 0 ∷ events.Told 0 ∷ []
+    opened ++ events.Call 0 (calls.Create path_b) ∷ events.Space 0 ∷ events.Told 0 ∷ events.Call 0 (calls.OpenW path_b) ∷ events.Space 0
+    ∷ events.Told 0 ∷ events.Call 1 (calls.Create path_c) ∷ events.Space 1 ∷ events.Told 1 ∷ events.Call 1 (calls.OpenW path_c)
+    ∷ events.Space 1 ∷ events.Told 1 ∷ events.Crash 0 ∷ events.Start 0 ∷ events.Space 0 ∷ events.Told 0
+    ∷ events.Call 0 (calls.OpenW path_c) ∷ events.Space 0 ∷ events.Told 0 ∷ events.Call 0 (calls.OpenW path_b) ∷ events.Space 0
+    ∷ events.Told 0 ∷ []
 
 abbrev pub all_of_one_agent_lines : List (List Line)
 all_of_one_agent_lines =
-    opened_lines ++ [] ∷ (lines.Changed (request_no 0 0 3) ∷ []) ∷ (lines.OkCreate 0 (file_id 0 0 2) ∷ []) ∷ [] ∷ (lines.Locked (request_no 0 0 4) (file_id 0 0 2) 100 ∷ []) ∷ (lines.Saw (request_no 0 0 4) (file_id 0 0 2) 0 ∷ lines.Opened 0 2 0 srcs.Empty 0 ∷ []) ∷ [] ∷ (lines.Changed (request_no 1 0 1) ∷ []) ∷ (lines.OkCreate 1 (file_id 1 0 1) ∷ []) ∷ [] ∷ (lines.Locked (request_no 1 0 2) (file_id 1 0 1) 100 ∷ []) ∷ (lines.Saw (request_no 1 0 2) (file_id 1 0 1) 0 ∷ lines.Opened 1 1 0 srcs.Empty 0 ∷ []) ∷ (lines.Crashed 0 ∷ []) ∷ (lines.Started 0 1 ∷ []) ∷ (lines.Unlocked (request_no 0 1 1) 2 ∷ []) ∷ (lines.Ready 0 ∷ []) ∷ [] ∷ (lines.Refused (request_no 0 1 2) (refusals.Locked 1) ∷ []) ∷ (lines.No 0 (refusals.Locked 1) ∷ []) ∷ [] ∷ (lines.Locked (request_no 0 1 3) (file_id 0 0 2) 100 ∷ []) ∷ (lines.Saw (request_no 0 1 3) (file_id 0 0 2) 0 ∷ lines.Opened 0 2 0 srcs.Empty 0 ∷ []) ∷ []
+    opened_lines ++ [] ∷ (lines.Changed (request_no 0 0 3) ∷ []) ∷ (lines.OkCreate 0 (file_id 0 0 2) ∷ []) ∷ []
+    ∷ (lines.Locked (request_no 0 0 4) (file_id 0 0 2) 100 ∷ [])
+    ∷ (lines.Saw (request_no 0 0 4) (file_id 0 0 2) 0 ∷ lines.Opened 0 2 0 srcs.Empty 0 ∷ []) ∷ []
+    ∷ (lines.Changed (request_no 1 0 1) ∷ []) ∷ (lines.OkCreate 1 (file_id 1 0 1) ∷ []) ∷ []
+    ∷ (lines.Locked (request_no 1 0 2) (file_id 1 0 1) 100 ∷ [])
+    ∷ (lines.Saw (request_no 1 0 2) (file_id 1 0 1) 0 ∷ lines.Opened 1 1 0 srcs.Empty 0 ∷ []) ∷ (lines.Crashed 0 ∷ [])
+    ∷ (lines.Started 0 1 ∷ []) ∷ (lines.Unlocked (request_no 0 1 1) 2 ∷ []) ∷ (lines.Ready 0 ∷ []) ∷ []
+    ∷ (lines.Refused (request_no 0 1 2) (refusals.Locked 1) ∷ []) ∷ (lines.No 0 (refusals.Locked 1) ∷ []) ∷ []
+    ∷ (lines.Locked (request_no 0 1 3) (file_id 0 0 2) 100 ∷ [])
+    ∷ (lines.Saw (request_no 0 1 3) (file_id 0 0 2) 0 ∷ lines.Opened 0 2 0 srcs.Empty 0 ∷ []) ∷ []
 
 all_of_one_agent_made : lines_of (setup 1 2) all_of_one_agent ≡ all_of_one_agent_lines
 unfolding hex_pair
@@ -99,11 +143,18 @@ all_of_one_agent_due = refl
 -- for the first; its session is not renewed again
 abbrev pub unlocking_late : List Event
 unlocking_late =
-    take 3 begins ++ events.Crash 0 ∷ events.Start 0 ∷ events.Crash 0 ∷ events.Start 0 ∷ events.Later 0 ∷ events.Space 0 ∷ events.Told 0 ∷ events.Call 0 (calls.OpenW path_a) ∷ events.Later 0 ∷ events.Space 0 ∷ events.Told 0 ∷ events.Space 0 ∷ events.Told 0 ∷ events.Tick 50 ∷ events.Turn 0 ∷ events.Space 0 ∷ events.Told 0 ∷ events.Turn 0 ∷ events.Space 0 ∷ []
+    take 3 begins ++ events.Crash 0 ∷ events.Start 0 ∷ events.Crash 0 ∷ events.Start 0 ∷ events.Later 0 ∷ events.Space 0
+    ∷ events.Told 0 ∷ events.Call 0 (calls.OpenW path_a) ∷ events.Later 0 ∷ events.Space 0 ∷ events.Told 0 ∷ events.Space 0
+    ∷ events.Told 0 ∷ events.Tick 50 ∷ events.Turn 0 ∷ events.Space 0 ∷ events.Told 0 ∷ events.Turn 0 ∷ events.Space 0 ∷ []
 
 abbrev pub unlocking_late_lines : List (List Line)
 unlocking_late_lines =
-    take 3 begins_lines ++ (lines.Crashed 0 ∷ []) ∷ (lines.Started 0 1 ∷ []) ∷ (lines.Crashed 0 ∷ []) ∷ (lines.Started 0 2 ∷ []) ∷ [] ∷ (lines.Unlocked (request_no 0 2 1) 0 ∷ []) ∷ (lines.Ready 0 ∷ []) ∷ [] ∷ [] ∷ (lines.Locked (request_no 0 2 2) (file_id 0 0 1) 100 ∷ []) ∷ (lines.Saw (request_no 0 2 2) (file_id 0 0 1) 0 ∷ lines.Opened 0 1 0 srcs.Empty 0 ∷ []) ∷ (lines.Unlocked (request_no 0 1 1) 1 ∷ []) ∷ (lines.Gone (request_no 0 1 1) ∷ []) ∷ [] ∷ [] ∷ (lines.Refused (request_no 0 2 3) refusals.LockLost ∷ []) ∷ (lines.Lapsed 0 1 ∷ []) ∷ [] ∷ (lines.Skip ∷ []) ∷ []
+    take 3 begins_lines ++ (lines.Crashed 0 ∷ []) ∷ (lines.Started 0 1 ∷ []) ∷ (lines.Crashed 0 ∷ []) ∷ (lines.Started 0 2 ∷ []) ∷ []
+    ∷ (lines.Unlocked (request_no 0 2 1) 0 ∷ []) ∷ (lines.Ready 0 ∷ []) ∷ [] ∷ []
+    ∷ (lines.Locked (request_no 0 2 2) (file_id 0 0 1) 100 ∷ [])
+    ∷ (lines.Saw (request_no 0 2 2) (file_id 0 0 1) 0 ∷ lines.Opened 0 1 0 srcs.Empty 0 ∷ [])
+    ∷ (lines.Unlocked (request_no 0 1 1) 1 ∷ []) ∷ (lines.Gone (request_no 0 1 1) ∷ []) ∷ [] ∷ []
+    ∷ (lines.Refused (request_no 0 2 3) refusals.LockLost ∷ []) ∷ (lines.Lapsed 0 1 ∷ []) ∷ [] ∷ (lines.Skip ∷ []) ∷ []
 
 unlocking_late_made : lines_of (setup 1 2) unlocking_late ≡ unlocking_late_lines
 unfolding hex_pair

@@ -1,4 +1,4 @@
-use Rattle.std.specs.Prelude.{ℕ, List, [], ◌∷◌, filter, find, Bool, false, ◌&&◌, not, ◌==◌, if◌then◌else◌, Option, Some, None}
+use Rattle.std.specs.Prelude.{ℕ, List, [], ◌∷◌, filter, find, false, ◌&&◌, not, ◌==◌, if◌then◌else◌, Option, Some, None}
 use Rattle.scfs_base.specs.declared.naming.FileId.{FileId}
 use Rattle.scfs_session.specs.Open.{session_of}
 use Rattle.scfs_session.specs.declared.sessions.Session.{Session}
