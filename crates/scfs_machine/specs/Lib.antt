@@ -37,4 +37,6 @@ pub mod Sound
 pub mod Blocks
 pub mod Newest
 pub mod TreeLaws
+pub mod Fences
+pub mod Acknowledged
 pub mod Laws
