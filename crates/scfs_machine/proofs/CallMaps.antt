@@ -8,6 +8,7 @@ use Rattle.scfs_schedule.specs.declared.types.Refusal.TheVariants as refusals
 use Rattle.scfs_session.specs.declared.sessions.Session.{Session}
 use Rattle.scfs_session.specs.Open.{session_of, ended, read_answer, after_write, after_truncate}
 use Rattle.scfs_base.specs.Limits.{handles_limit}
+use Rattle.scfs_machine.specs.Lives.{is_ready}
 use Rattle.scfs_machine.specs.Names.{file_id}
 use Rattle.scfs_machine.specs.Format.{Setup}
 use Rattle.scfs_machine.specs.NameSteps.{Make, Look}
@@ -80,5 +81,6 @@ module _ {V W : Type 0} (g : V → W) (who : ℕ) where
 
   pub same_call : (s : Setup) (a : Agent V) (call : Call) (w : Option (Waiting V))
       → call_of who s (to.agent g a) call (to.waiting g w) ≡ to.reaction g (call_of who s a call w)
-  same_call s a call None = same_called s a call
+  same_call s a call None =
+      same_if g (is_ready a.life) _ _ (called who s a call) (refuse a (refusals.Starting 0)) (same_called s a call) refl
   same_call s a call (Some w) = refl

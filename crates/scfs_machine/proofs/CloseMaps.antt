@@ -16,6 +16,7 @@ use Rattle.scfs_machine.specs.Next.{Next, Goes_on, Asks, Has, Gives_up}
 use Rattle.scfs_machine.specs.Storing.{is_new_ack, with_ack, store_on, store_turn}
 use Rattle.scfs_machine.specs.Sayings as says
 use Rattle.scfs_machine.specs.Agents.{Upload, Closed, Agent, answered, asks_step}
+use Rattle.scfs_machine.specs.Leases.{unleased}
 use Rattle.scfs_machine.specs.Closes.{goes_on, asks_puts, falls_short, stores, with_storing, upload_hears, upload_turns, begins}
 use Rattle.scfs_machine.specs.Mapped as to
 use Rattle.scfs_machine.specs.Mapped.{Own, through}
@@ -27,9 +28,9 @@ module _ {V W : Type 0} (s : Setup) (ws : Versions W) (g : V → W) (own : Own V
 
   same_short : (a : Agent V) (x : Closed V) (acks : ℕ) → falls_short s who (to.agent g a) (to.closed g x) acks ≡ to.reaction g (falls_short s who a x acks)
   same_short a x acks =
-      same_followed g _ (answered a (says.Refuses (refusals.Short acks)))
+      same_followed g _ (answered (unleased a x.number) (says.Refuses (refusals.Short acks)))
       (λ b. asks_step who b (On_locks (Unlock x.session.file x.number))) (λ b. asks_step who b (On_locks (Unlock x.session.file x.number))) refl
-      (same_asks g who (record a { waiting = None }) (On_locks (Unlock x.session.file x.number)))
+      (same_asks g who (record (unleased a x.number) { waiting = None }) (On_locks (Unlock x.session.file x.number)))
 
   same_stores : (a : Agent V) (x : Closed V) (u : Upload V) (p : Next (Unit {0}))
       → stores s who (to.agent g a) (to.closed g x) (to.upload g u) p ≡ to.reaction g (stores s who a x u p)

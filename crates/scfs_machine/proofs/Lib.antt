@@ -11,6 +11,7 @@ mod Crashes
 mod Starts
 pub mod ListMaps
 pub mod AgentMaps
+pub mod LeaseMaps
 pub mod OpenMaps
 pub mod CloseMaps
 pub mod SessionMaps

@@ -1,16 +1,18 @@
 -- In the tree of every history no file has two locks, and a close that was completed had its lock.
-use Rattle.std.proofs.Common.{◌≡◌, ℕ, ◌+◌, List, [], ◌∷◌, ◌++◌, false, ◌∙◌, None, not, nat_lt, eqb}
+use Rattle.std.proofs.Common.{◌≡◌, ℕ, ◌+◌, List, [], ◌∷◌, ◌++◌, filter, false, refl, ◌∙◌, Option, Some, None, not, nat_lt, eqb}
+use Rattle.scfs_base.specs.declared.naming.FileId.{FileId}
 use Rattle.scfs_base.specs.declared.naming.RequestNo.{RequestNo}
 use Rattle.scfs_machine.specs.Format.{Setup}
 use Rattle.scfs_machine.specs.History.{History}
 use Rattle.scfs_machine.specs.Versions.{Versions}
-use Rattle.scfs_machine.specs.Tree.{Lock, Tree, live, lock_on, is_lock_by}
-use Rattle.scfs_machine.specs.LockSteps.{Unlock}
+use Rattle.scfs_machine.specs.Tree.{Lock, Tree, live, lock_on, is_lock_by, session_lock}
+use Rattle.scfs_machine.specs.Lists.{without_first}
+use Rattle.scfs_machine.specs.LockSteps.{Lock_step, Unlock, Unlock_all, Renew, frees, renewed, lock_outcome, locks_after}
 use Rattle.scfs_machine.specs.SessionSteps.{session_after, new_lock}
 use Rattle.scfs_machine.specs.Steps.{Step, On_names, On_locks, On_sessions, after_ok, served}
 use Rattle.scfs_machine.specs.Runs.{state_after}
 use Rattle.scfs_machine.specs.TreeLaws.{LocksAlone}
-use Rattle.scfs_machine.proofs.NewestLists.{Pairs, eqb-comm, each-map, each-always, pairs-append, pairs-without, pairs-filter}
+use Rattle.scfs_machine.proofs.NewestLists.{Pairs, eqb-comm, each-map, each-always, pairs-append, pairs-without, pairs-filter, pairs-found}
 use Rattle.scfs_machine.proofs.NamesSteps.{session_cases}
 use Rattle.scfs_machine.proofs.NamesEvents.{tree_always}
 use Rattle.scfs_machine.proofs.NamesApart.{fails_at_each, finds_nothing}
@@ -22,6 +24,24 @@ FilesApart l m = eqb m.file.0 l.file.0 ≡ false
 alone_of_pairs : (ls : List Lock) → Pairs FilesApart ls → LocksAlone ls
 alone_of_pairs [] h = tt
 alone_of_pairs (l ∷ ls) h = (finds_nothing _ ls h.0, alone_of_pairs ls h.1)
+
+-- what a step leaves of the locks
+module _ (locks : List Lock) (h : Pairs FilesApart locks) (until : ℕ) (request : RequestNo) where
+  without_freed : (x : Lock_step) → Pairs FilesApart (filter (λ (l : Lock). not (frees request x l)) locks)
+  without_freed x = pairs-filter FilesApart (λ (l : Lock). not (frees request x l)) locks h
+
+  renewed_alone : (file : FileId) (session : ℕ) (o : Option Lock) → session_lock locks request file session ≡ o
+      → Pairs FilesApart (after_ok locks (locks_after locks request (Renew file session)) (renewed until o))
+  renewed_alone file session None found = h
+  renewed_alone file session (Some l) found =
+      pairs-append FilesApart (without_first (is_lock_by request file session) locks) (record l { until = until })
+      (pairs-without FilesApart (is_lock_by request file session) locks h)
+      (pairs-found FilesApart (λ k m e. eqb-comm k.file.0 m.file.0 ∙ e) (is_lock_by request file session) locks l h found)
+
+  left_alone : (x : Lock_step) → Pairs FilesApart (after_ok locks (locks_after locks request x) (lock_outcome locks until request x))
+  left_alone (Unlock file session) = without_freed (Unlock file session)
+  left_alone Unlock_all = without_freed Unlock_all
+  left_alone (Renew file session) = renewed_alone file session (session_lock locks request file session) refl
 
 module _ {V : Type 0} (s : Setup) (vs : Versions V) where
   abbrev AllAlone : Tree V → Type 0
@@ -39,8 +59,7 @@ module _ {V : Type 0} (s : Setup) (vs : Versions V) where
   locks_step : (tree : Tree V) (now lease : ℕ) (request : RequestNo) (step : Step V) → AllAlone tree
       → AllAlone (served vs (live now tree) now lease request step).tree
   locks_step tree now lease request (On_names x) h = live_alone now tree h
-  locks_step tree now lease request (On_locks (Unlock file session)) h =
-      pairs-filter FilesApart (λ (l : Lock). not (is_lock_by request file session l)) (live now tree).locks (live_alone now tree h)
+  locks_step tree now lease request (On_locks x) h = left_alone (live now tree).locks (live_alone now tree h) (now + lease) request x
   locks_step tree now lease request (On_sessions x) h =
       let t : Tree V = live now tree in
       let g : AllAlone t = live_alone now tree h in

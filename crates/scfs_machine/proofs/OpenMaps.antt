@@ -17,6 +17,7 @@ use Rattle.scfs_machine.specs.Next.{Next, Goes_on, Asks, Has, Gives_up}
 use Rattle.scfs_machine.specs.Reading.{piece_in, is_awaited, with_piece, read_on, read_turn}
 use Rattle.scfs_machine.specs.Sayings as says
 use Rattle.scfs_machine.specs.Agents.{Opening, Agent, silent, saying, answered, asks_step}
+use Rattle.scfs_machine.specs.Leases.{unleased}
 use Rattle.scfs_machine.specs.Opens.{Found, As_empty, On_clouds, found_version, found, opened, tallied, sighted, saw, gives_up, reads, takes, open_hears, open_turns}
 use Rattle.scfs_machine.specs.Mapped as to
 use Rattle.scfs_machine.specs.Mapped.{Own, through}
@@ -57,11 +58,11 @@ module _ {V W : Type 0} (s : Setup) (ws : Versions W) (g : V → W) (own : Own V
   same_given_up : (a : Agent V) (o : Opening V) (good : ℕ)
       → gives_up s ws who (to.agent g a) (to.opening g o) good ≡ to.reaction g (gives_up s vs who a o good)
   same_given_up a o good =
-      same_followed g _ (answered a (says.Refuses (refusals.Unavailable (ws.number (g o.version)) good)))
+      same_followed g _ (answered (unleased a o.session) (says.Refuses (refusals.Unavailable (ws.number (g o.version)) good)))
       (λ b. if o.writes then asks_step who b (On_locks (Unlock (ws.file (g o.version)) o.session)) else silent b)
       (λ b. if o.writes then asks_step who b (On_locks (Unlock (ws.file (g o.version)) o.session)) else silent b) refl
       (same_if g o.writes _ _ (asks_step who _ (On_locks (Unlock (ws.file (g o.version)) o.session))) (silent _)
-      (same_asks g who (record a { waiting = None }) (On_locks (Unlock (ws.file (g o.version)) o.session))) refl)
+      (same_asks g who (record (unleased a o.session) { waiting = None }) (On_locks (Unlock (ws.file (g o.version)) o.session))) refl)
 
   pub same_reads : (a : Agent V) (o : Opening V) (r : Next (List ℕ)) → FitsRead s Fits o.version r
       → reads s ws who (to.agent g a) (to.opening g o) r ≡ to.reaction g (reads s vs who a o r)

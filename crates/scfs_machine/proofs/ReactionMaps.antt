@@ -7,16 +7,21 @@ use Rattle.scfs_session.specs.declared.sessions.Session.{Session}
 use Rattle.scfs_machine.specs.Format.{Setup, sealed}
 use Rattle.scfs_machine.specs.Versions.{Versions}
 use Rattle.scfs_machine.specs.Given.{Given}
-use Rattle.scfs_machine.specs.Agents.{Waiting, For_step, For_clouds, For_close, Upload, Closed, Agent, Input, Calls, Tells, Hears, Turns, Reaction}
+use Rattle.scfs_machine.specs.LockSteps.{Unlock_all}
+use Rattle.scfs_machine.specs.Steps.{On_locks}
+use Rattle.scfs_machine.specs.Sayings as says
+use Rattle.scfs_machine.specs.Agents.{Waiting, For_step, For_clouds, For_close, Upload, Closed, Agent, Input, Calls, Tells, Hears, Turns, Crashes, Starts, Reaction, saying, asks_step}
+use Rattle.scfs_machine.specs.Leases.{renews_due}
 use Rattle.scfs_machine.specs.Opens.{open_hears, open_turns}
 use Rattle.scfs_machine.specs.Closes.{upload_hears, upload_turns}
-use Rattle.scfs_machine.specs.Reactions.{idle, to_open, to_closed, to_upload, hears, turns, responded, begun, next_begun, reacted}
+use Rattle.scfs_machine.specs.Reactions.{next_life, idle, to_open, to_closed, to_upload, to_work, hears, turns, starts, responded, begun, next_begun, reacted}
 use Rattle.scfs_machine.specs.Mapped as to
 use Rattle.scfs_machine.specs.Mapped.{Own, through}
 use Rattle.scfs_machine.specs.Sound.{FitsHeard}
-use Rattle.scfs_machine.proofs.AgentMaps.{same_followed}
+use Rattle.scfs_machine.proofs.AgentMaps.{same_followed, same_asks}
 use Rattle.scfs_machine.proofs.OpenMaps.{same_open_hears, same_open_turns}
 use Rattle.scfs_machine.proofs.CloseMaps.{same_upload_hears, same_upload_turns, same_begins}
+use Rattle.scfs_machine.proofs.LeaseMaps.{same_renews_due}
 use Rattle.scfs_machine.proofs.CallMaps.{same_call}
 use Rattle.scfs_machine.proofs.ToldMaps.{same_tells}
 
@@ -65,12 +70,24 @@ module _ {V W : Type 0} (s : Setup) (ws : Versions W) (g : V → W) (own : Own V
       (of_upload (λ next x u. upload_hears s who next x u c request answer) (λ next x u. upload_hears s who next x u c request answer)
       (λ b x u. same_upload_hears s ws g own who b x u c request answer) r.agent r.agent.closed)
 
-  same_turns : (a : Agent V) → turns s ws who (to.agent g a) ≡ to.reaction g (turns s vs who a)
-  same_turns a =
+  same_work : (a : Agent V) → to_work (to.agent g a) (open_turns s ws who) (upload_turns s who) ≡ to.reaction g (to_work a (open_turns s vs who) (upload_turns s who))
+  same_work a =
       let r = to_open a (open_turns s vs who) a.waiting in
       same_followed g _ (to_open a (open_turns s vs who) a.waiting) (λ b. to_upload b (upload_turns s who) b.closed)
       (λ b. to_upload b (upload_turns s who) b.closed) (to_open_turns a a.waiting)
       (of_upload (upload_turns s who) (upload_turns s who) (same_upload_turns s ws g own who) r.agent r.agent.closed)
+
+  same_turns : (a : Agent V) (given : Given) → turns s ws who (to.agent g a) given ≡ to.reaction g (turns s vs who a given)
+  same_turns a given =
+      let first : Reaction V = renews_due vs who a given.now s.header.lease in
+      same_followed g _ first (λ b. to_work b (open_turns s ws who) (upload_turns s who)) (λ b. to_work b (open_turns s vs who) (upload_turns s who))
+      (same_renews_due ws g own who a given.now s.header.lease) (same_work first.agent)
+
+  same_starts : (a : Agent V) → starts s ws who (to.agent g a) ≡ to.reaction g (starts s vs who a)
+  same_starts a =
+      let up : Agent V = next_life a in
+      same_followed g _ (saying up (says.Started up.incarnation)) (λ b. asks_step who b (On_locks Unlock_all)) (λ b. asks_step who b (On_locks Unlock_all)) refl
+      (same_asks g who up (On_locks Unlock_all))
 
   -- what an input brings fits, where it is an answer to an open
   abbrev pub FitsInput : Agent V → Input V → Type 0
@@ -78,13 +95,17 @@ module _ {V W : Type 0} (s : Setup) (ws : Versions W) (g : V → W) (own : Own V
   FitsInput a (Tells request o) = Unit {0}
   FitsInput a (Hears c request answer) = FitsHeard s Fits c request answer a.waiting
   FitsInput a Turns = Unit {0}
+  FitsInput a Crashes = Unit {0}
+  FitsInput a Starts = Unit {0}
 
   same_responded : (a : Agent V) (given : Given) (x : Input V) → FitsInput a x
       → responded s ws who (to.agent g a) given (to.input g x) ≡ to.reaction g (responded s vs who a given x)
   same_responded a given (Calls call) fits = same_call g who s a call a.waiting
   same_responded a given (Tells request o) fits = same_tells s ws g own who a given request o
   same_responded a given (Hears c request answer) fits = same_hears a c request answer fits
-  same_responded a given Turns fits = same_turns a
+  same_responded a given Turns fits = same_turns a given
+  same_responded a given Crashes fits = refl
+  same_responded a given Starts fits = same_starts a
 
   same_begun : (a : Agent V) (rest : List (Closed V)) (x : Closed V) (u : Option (Upload V))
       → begun s ws who (to.agent g a) (map (to.closed g) rest) (to.closed g x) (to.some_upload g u) ≡ to.reaction g (begun s vs who a rest x u)

@@ -11,6 +11,7 @@ use Rattle.scfs_machine.specs.Walks.{OrRefusal, on_ok}
 use Rattle.scfs_machine.specs.SessionSteps.{Session_step, Open_read, Open_write, Commit, Session_outcome, Sees, Locks, Completes, new_lock, still_held, sight_of, with_version, session_outcome, session_after, session_line}
 use Rattle.scfs_machine.specs.Steps.{after_ok, line_of}
 use Rattle.scfs_machine.specs.Agents.{Closed, Agent}
+use Rattle.scfs_machine.specs.Leases.{leased}
 use Rattle.scfs_machine.specs.Told.{told_open, told_closed, told_commit, told_sessions}
 use Rattle.scfs_machine.specs.Mapped as to
 use Rattle.scfs_machine.specs.Mapped.{Own, through}
@@ -63,7 +64,7 @@ module _ {V W : Type 0} (ws : Versions W) (g : V → W) (own : Own V) where
     same_told_open : (a : Agent V) (given : Given) (request : RequestNo) (h : ℕ) (r : OrRefusal (Session_outcome V))
         → told_open s ws who (to.agent g a) given request h (on_ok (to.session_outcome g) r) ≡ to.reaction g (told_open s vs who a given request h r)
     same_told_open a given request h (Ok (Sees y)) = same_saw s ws g own who a given request h false y
-    same_told_open a given request h (Ok (Locks y l)) = same_saw s ws g own who a given request h true y
+    same_told_open a given request h (Ok (Locks y l)) = same_saw s ws g own who (leased a h l.until) given request h true y
     same_told_open a given request h (Ok (Completes k v n)) = refl
     same_told_open a given request h (Err why) = refl
 

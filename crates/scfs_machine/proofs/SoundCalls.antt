@@ -16,10 +16,11 @@ use Rattle.scfs_schedule.specs.declared.types.Refusal.TheVariants as refusals
 use Rattle.scfs_schedule.specs.declared.types.Call.{Call}
 use Rattle.scfs_schedule.specs.declared.types.Call.TheVariants as calls
 use Rattle.scfs_machine.specs.Format.{Setup}
+use Rattle.scfs_machine.specs.Lives.{is_ready}
 use Rattle.scfs_machine.specs.Layers.{Version}
 use Rattle.scfs_machine.specs.SessionSteps.{Open_read, Open_write}
 use Rattle.scfs_machine.specs.Agents.{Waiting, Agent, Reaction}
-use Rattle.scfs_machine.specs.Calls.{path_names, any_names, unless_refused, with_room, close, makes, looks, opens, called, call_of}
+use Rattle.scfs_machine.specs.Calls.{path_names, any_names, refuse, unless_refused, with_room, close, makes, looks, opens, called, call_of}
 use Rattle.scfs_machine.proofs.SoundLists.{each_append, either}
 use Rattle.scfs_machine.proofs.SoundKept.{AreBytes, IsContents, IsSession, IsWritten, IsClosed, IsAgent, IsReaction}
 
@@ -150,5 +151,6 @@ module _ (s : Setup) (Among : (c : ℕ) → (bytes : List ℕ) → Type 0) where
     called_keeps other w = (is, tt)
 
     pub call_keeps : (call : Call) (waiting : Option (Waiting Version)) → IsWritten call → Is (call_of a s agent call waiting)
-    call_keeps call None w = called_keeps call w
+    call_keeps call None w =
+        either Is (is_ready agent.life) (called a s agent call) (refuse agent (refusals.Starting 0)) (called_keeps call w) (is, tt)
     call_keeps call (Some waiting) w = (is, tt)

@@ -19,8 +19,8 @@ use Rattle.scfs_machine.specs.Layers.{Version}
 use Rattle.scfs_machine.specs.Walks.{OrRefusal}
 use Rattle.scfs_machine.specs.SessionSteps.{Session_step, Commit, Session_outcome, Sees, Locks, Completes}
 use Rattle.scfs_machine.specs.Steps.{Step, On_sessions, Outcome, Of_sessions}
-use Rattle.scfs_machine.specs.Agents.{Opening, Waiting, For_clouds, Upload, Closed, Request, Agent, Input, Calls, Tells, Hears, Turns, Sent, Reaction}
-use Rattle.scfs_machine.specs.Events.{At_agent, Call_comes, Turn_comes, Answer_given, Place, Agent_has, Cloud_has}
+use Rattle.scfs_machine.specs.Agents.{Opening, Waiting, For_clouds, Upload, Closed, Request, Agent, Input, Calls, Tells, Hears, Turns, Crashes, Starts, Sent, Reaction}
+use Rattle.scfs_machine.specs.Events.{At_agent, Call_comes, Turn_comes, Crash_comes, Start_comes, Answer_given, Place, Agent_has, Cloud_has}
 use Rattle.scfs_machine.specs.States.{Reply, Seat, State}
 use Rattle.scfs_machine.proofs.SoundLists.{Each}
 
@@ -43,6 +43,8 @@ IsWritten other = Unit {0}
 abbrev pub IsBrought : At_agent → Type 0
 IsBrought (Call_comes call) = IsWritten call
 IsBrought Turn_comes = Unit {0}
+IsBrought Crash_comes = Unit {0}
+IsBrought Start_comes = Unit {0}
 
 module _ (s : Setup) (Among : (c : ℕ) → (bytes : List ℕ) → Type 0) where
   -- contents that are sealed as an upload, with each cloud's object among those looked at
@@ -139,6 +141,8 @@ module _ (s : Setup) (Among : (c : ℕ) → (bytes : List ℕ) → Type 0) where
   IsInput (Tells request o) = IsOutcome o
   IsInput (Hears c request answer) = IsHeard c answer
   IsInput Turns = Unit {0}
+  IsInput Crashes = Unit {0}
+  IsInput Starts = Unit {0}
 
   -- a request whose object, where it puts one, is among them
   abbrev pub IsAsked : (c : ℕ) → CloudRequest → Type 0

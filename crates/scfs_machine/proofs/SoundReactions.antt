@@ -1,10 +1,13 @@
 -- What an agent does on an input keeps what holds of its versions and sessions: what it seals is put.
 use Rattle.std.proofs.Common.{ℕ, zero, suc, ◌+◌, ◌<◌, List, map, subst, arith, eq-or-lt_of_le, inl, inr, ◌≤◌, [], ◌∷◌, Option, Some, None, true, false, Ok, Err, IfSome}
 use Rattle.std.specs.List.{range_with_len}
+use Rattle.std.proofs.lemmas.List.Elements.{All-nil}
+use Rattle.scfs_base.specs.declared.naming.FileId.{FileId}
+use Rattle.scfs_lease.specs.declared.leases.Lease.{Lease}
 use Rattle.scfs_base.specs.declared.naming.RequestNo.{RequestNo}
 use Rattle.scfs_base.specs.declared.cloud.CloudAnswer.{CloudAnswer}
 use Rattle.scfs_base.specs.declared.cloud.CloudRequest.TheVariants as requests
-use Rattle.scfs_machine.specs.Lists.{below}
+use Rattle.scfs_machine.specs.Lists.{if_some, below}
 use Rattle.scfs_machine.specs.Names.{upload_no, upload_name}
 use Rattle.scfs_machine.specs.Format.{Setup, clouds_of, sealed, object_at}
 use Rattle.scfs_machine.specs.Layers.{Version, closes}
@@ -13,12 +16,14 @@ use Rattle.scfs_machine.specs.Asked.{Asked, asked_of}
 use Rattle.scfs_machine.specs.Next.{Next, Goes_on, Asks, Has, Gives_up}
 use Rattle.scfs_machine.specs.Storing.{is_new_ack, with_ack, store_on, store_turn}
 use Rattle.scfs_machine.specs.Walks.{OrRefusal}
+use Rattle.scfs_machine.specs.LockSteps.{Lock_step, Unlock, Unlock_all, Renew, Lock_outcome, Frees, Renews}
 use Rattle.scfs_machine.specs.SessionSteps.{Session_step, Open_read, Open_write, Commit, Session_outcome, Sees, Locks, Completes}
 use Rattle.scfs_machine.specs.Steps.{Outcome, Of_names, Of_locks, Of_sessions}
-use Rattle.scfs_machine.specs.Agents.{Upload, Closed, Agent, Reaction, Opening, Waiting, For_clouds, Input, Calls, Tells, Hears, Turns, silent}
+use Rattle.scfs_machine.specs.Agents.{Upload, Closed, Agent, Reaction, Opening, Waiting, For_clouds, Input, Calls, Tells, Hears, Turns, Crashes, Starts, silent, followed}
+use Rattle.scfs_machine.specs.Leases.{leased, file_of, renews, renews_all, renews_due}
 use Rattle.scfs_machine.specs.Opens.{open_hears, open_turns}
 use Rattle.scfs_machine.specs.Closes.{with_storing, stores, upload_hears, upload_turns, begins}
-use Rattle.scfs_machine.specs.Told.{is_pending, untold, told_open, told_commit, told_sessions, told}
+use Rattle.scfs_machine.specs.Told.{is_pending, untold, told_locks, told_open, told_commit, told_sessions, told}
 use Rattle.scfs_machine.specs.Reactions.{idle, to_open, to_closed, to_upload, to_work, responded, begun, next_begun, reacted}
 use Rattle.scfs_machine.proofs.SoundLists.{Each, either, each_append, each_behind}
 use Rattle.scfs_machine.proofs.SoundKept.{IsSession, IsUpload, IsAgent, IsReaction, IsSent, IsOpening, IsWaiting, IsClosed, IsRequest, IsSessionOutcome, IsOk, IsOutcome, IsInput}
@@ -71,7 +76,7 @@ module _ (s : Setup) (Among : (c : ℕ) → (bytes : List ℕ) → Type 0) (a : 
     open_keeps : (h : ℕ) (r : OrRefusal (Session_outcome Version)) → IsOk s Among (IsSessionOutcome s Among) r
         → Is (told_open s (closes s) a agent given request h r)
     open_keeps h (Ok (Sees sight)) k = saw_keeps s Among a agent is given request h false sight k
-    open_keeps h (Ok (Locks sight l)) k = saw_keeps s Among a agent is given request h true sight k
+    open_keeps h (Ok (Locks sight l)) k = saw_keeps s Among a (leased agent h l.until) is given request h true sight k
     open_keeps h (Ok (Completes session v n)) k = (is, tt)
     open_keeps h (Err why) k = ((tt, is.1, is.2), tt)
 
@@ -88,9 +93,18 @@ module _ (s : Setup) (Among : (c : ℕ) → (bytes : List ℕ) → Type 0) (a : 
     sessions_keep (Open_write names h) r k = open_keeps h r k
     sessions_keep (Commit h v) r k = commit_keeps agent.closed r is.2
 
+    locks_keep : (x : Lock_step) (r : OrRefusal Lock_outcome) → Is (told_locks agent x r)
+    locks_keep (Unlock file h) r = (is, tt)
+    locks_keep Unlock_all (Ok (Frees count)) = (is, tt)
+    locks_keep Unlock_all (Ok (Renews l)) = (is, tt)
+    locks_keep Unlock_all (Err why) = (is, tt)
+    locks_keep (Renew file h) (Ok (Frees count)) = (is, tt)
+    locks_keep (Renew file h) (Ok (Renews l)) = (is, tt)
+    locks_keep (Renew file h) (Err why) = (is, tt)
+
     told_keeps : (o : Outcome Version) → IsOutcome s Among o → Is (told s (closes s) a agent given request o)
     told_keeps (Of_names x r) k = ((tt, is.1, is.2), tt)
-    told_keeps (Of_locks x r) k = (is, tt)
+    told_keeps (Of_locks x r) k = locks_keep x r
     told_keeps (Of_sessions x r) k = sessions_keep x r k
 
   -- its work with clouds
@@ -132,6 +146,24 @@ module _ (s : Setup) (Among : (c : ℕ) → (bytes : List ℕ) → Type 0) (a : 
   next_keeps agent [] is k sent = (is, tt)
   next_keeps agent (x ∷ rest) is k sent = begun_keeps agent rest x x.upload is k.0.0 k.1 sent
 
+  -- one after the other
+  followed_keeps : (first : Reaction Version) (next : Agent Version → Reaction Version) → Is first → (IsAgent s Among first.agent → Is (next first.agent))
+      → Is (followed first next)
+  followed_keeps first next kept then =
+      let second = then kept.0 in (second.0, each_append (IsRequest s Among) first.steps (next first.agent).steps kept.1 second.1)
+
+  renews_keep : (agent : Agent Version) (h : ℕ) (file : Option FileId) → IsAgent s Among agent
+      → Is (if_some file (silent agent) (renews (closes s) a agent h))
+  renews_keep agent h None is = (is, tt)
+  renews_keep agent h (Some file) is = (is, (tt, tt))
+
+  all_keep : (agent : Agent Version) (leases : List Lease) → IsAgent s Among agent → Is (renews_all (closes s) a agent leases)
+  all_keep agent [] is = (is, tt)
+  all_keep agent (l ∷ rest) is =
+      let file : Option FileId = file_of (closes s) agent l.session agent.waiting in
+      let first : Reaction Version = if_some file (silent agent) (renews (closes s) a agent l.session) in
+      followed_keeps first (λ next. renews_all (closes s) a next rest) (renews_keep agent l.session file is) (λ k. all_keep first.agent rest k)
+
   module _ (agent : Agent Version) (is : IsAgent s Among agent) (given : Given) where
     responded_keeps : (input : Input Version) → IsInput s Among input → Is (responded s (closes s) a agent given input)
     responded_keeps (Calls call) k = call_keeps s Among a agent is call agent.waiting k
@@ -143,8 +175,12 @@ module _ (s : Setup) (Among : (c : ℕ) → (bytes : List ℕ) → Type 0) (a : 
         (λ next o h w. hears_keep s Among a next o c request answer h w k)
         (λ next x u h fits w. upload_hears_keep next x h fits u c request answer w) agent is
     responded_keeps Turns k =
+        followed_keeps (renews_due (closes s) a agent given.now s.header.lease) (λ next. to_work next (open_turns s (closes s) a) (upload_turns s a))
+        (all_keep agent _ is) (λ k.
         work_keeps (open_turns s (closes s) a) (upload_turns s a) (λ next o h w. turn_keeps s Among a next h o w)
-        (λ next x u h fits w. upload_turns_keep next x h fits u w) agent is
+        (λ next x u h fits w. upload_turns_keep next x h fits u w) _ k)
+    responded_keeps Crashes k = ((tt, All-nil IsSession, tt), tt)
+    responded_keeps Starts k = (is, (tt, tt))
 
     -- where the objects that it puts are among those looked at
     pub reacted_keeps : (input : Input Version) → IsInput s Among input → Each (IsSent s Among) (reacted s (closes s) a agent given input).sent

@@ -1,5 +1,5 @@
 -- An event keeps what holds of the file map, and what it gives an open is what was closed.
-use Rattle.std.proofs.Common.{◌≡◌, ℕ, ◌+◌, List, [], ◌∷◌, Option, Some, None, Ok, Err, slice_get, slice_set, ◌++◌, length, refl, subst, arith, Bool, true, false, length-append, eqb-true, IfSome}
+use Rattle.std.proofs.Common.{◌≡◌, ℕ, ◌+◌, List, [], ◌∷◌, Option, Some, None, Ok, Err, slice_get, slice_set, ◌++◌, length, refl, subst, arith, Bool, true, false, not, length-append, eqb-true, IfSome}
 use Rattle.std.specs.Prelude.{◌-◌, ◌==◌, if◌then◌else◌, option_to_list}
 use Rattle.scfs_base.specs.declared.naming.RequestNo.{RequestNo}
 use Rattle.scfs_base.specs.declared.cloud.CloudAnswer.{CloudAnswer}
@@ -16,10 +16,11 @@ use Rattle.scfs_machine.specs.Tree.{Tree, live, session_lock, node_at}
 use Rattle.scfs_machine.specs.Walks.{OrRefusal, on_ok, file_at, free_file_at}
 use Rattle.scfs_machine.specs.SessionSteps.{Session_step, Open_read, Open_write, Commit, Session_outcome, Sees, Locks, Completes, session_outcome, session_after, still_held}
 use Rattle.scfs_machine.specs.Steps.{Step, On_sessions, after_ok, served}
-use Rattle.scfs_machine.specs.Agents.{Request, Input, Calls, Tells, Hears, Turns, Opening, Waiting, For_clouds}
+use Rattle.scfs_machine.specs.Agents.{Request, Input, Calls, Tells, Hears, Turns, Crashes, Starts, Opening, Waiting, For_clouds}
+use Rattle.scfs_machine.specs.Lives.{is_up}
 use Rattle.scfs_machine.specs.Reactions.{reacted}
-use Rattle.scfs_machine.specs.Events.{At_agent, Call_comes, Turn_comes, At_space, Step_served, Step_postponed, Reply_told, Request_answered, Answer_given, Message_moved, Place, Agent_has, Space_has, Cloud_has, Nowhere}
-use Rattle.scfs_machine.specs.States.{Reply, Seat, State, Effect, sum_of, leaving, at_seat, postpones, moves, answers_by, comes, serves, tells, gives, at_agent, at_space, at_place}
+use Rattle.scfs_machine.specs.Events.{At_agent, Call_comes, Turn_comes, Crash_comes, Start_comes, At_space, Step_served, Step_postponed, Reply_told, Request_answered, Answer_given, Message_moved, Place, Agent_has, Space_has, Cloud_has, Clock_has}
+use Rattle.scfs_machine.specs.States.{Reply, Seat, State, Effect, sum_of, leaving, with_seat, at_seat, is_there, postpones, moves, answers_by, comes, comes_if, comes_back, serves, tells, gives, at_agent, at_space, at_place}
 use Rattle.scfs_machine.specs.Sound.{FitsRead, FitsHeard, FitsAt, FitsGiven, FitsPlace, WasClosed}
 use Rattle.scfs_machine.proofs.SoundLists.{Each, each_append, each_set, each_get, each_find, each_moved, on_there}
 use Rattle.scfs_machine.proofs.SoundKept.{IsVersion, IsStep, IsSessionStep, IsRequest, IsSessionOutcome, IsOk, IsOutcome, IsReply, IsSeat, IsState, IsInput, IsSent, IsBrought, IsGiven, IsPlace, AreGood, IsOpening, IsWaiting, IsHeard}
@@ -99,22 +100,39 @@ module _ (s : Setup) (Among : (c : ℕ) → (bytes : List ℕ) → Type 0) where
           let kept = reacted_keeps s Among a seat.agent h.0 given input k sent in
           (is.0, seat_keeps a _ (kept.0, each_append (IsRequest s Among) seat.asked r.steps h.1 kept.1, h.2))
 
+      comes_if_keep : (can : Bool) (a : ℕ) (input : Input Version) (seat : Seat Version) → IsInput s Among input → IsSeat s Among seat
+          → Keeps (comes_if s (closes s) can state a given input seat)
+      comes_if_keep true a input seat k h = comes_keep a [] input seat k h
+      comes_if_keep false a input seat k h = λ sent. is
+
+      back_if : (there : Bool) (a : ℕ) (request : RequestNo) (before : List Line) (input : Input Version) (seat : Seat Version) → IsInput s Among input
+          → IsSeat s Among seat
+          → Keeps (if there then comes s (closes s) state a given before input seat else leaving (with_seat state a seat) (lines.Gone request ∷ []))
+      back_if true a request before input seat k h = comes_keep a before input seat k h
+      back_if false a request before input seat k h = λ sent. (is.0, seat_keeps a seat h)
+
+      back_keeps : (a : ℕ) (request : RequestNo) (before : List Line) (input : Input Version) (seat : Seat Version) → IsInput s Among input
+          → IsSeat s Among seat → Keeps (comes_back s (closes s) state a given request before input seat)
+      back_keeps a request before input seat k h = back_if (is_there seat.agent request) a request before input seat k h
+
       tells_keep : (a : ℕ) (seat : Seat Version) (replied : List (Reply Version)) → IsSeat s Among seat → Each (IsReply s Among) replied
           → Keeps (tells s (closes s) state a given seat replied)
       tells_keep a seat [] h k = λ sent. is
       tells_keep a seat (oldest ∷ rest) h k =
-          comes_keep a [] (Tells oldest.number oldest.outcome) (record seat { replied = rest }) k.0 (h.0, h.1, k.1)
+          back_keeps a oldest.number [] (Tells oldest.number oldest.outcome) (record seat { replied = rest }) k.0 (h.0, h.1, k.1)
 
       gives_keep : (c : ℕ) (m : Option Message) → IsGiven s Among c m → Keeps (gives s (closes s) state given c m)
       gives_keep c (Some (Of_answer request answer)) k =
           at_seat_keeps request.agent _ (λ seat h.
-          comes_keep request.agent (lines.Gave c request (sum_of s answer) ∷ []) (Hears c request answer) seat k h)
+          back_keeps request.agent request (lines.Gave c request (sum_of s answer) ∷ []) (Hears c request answer) seat k h)
       gives_keep c other k = λ sent. is
 
       agent_keeps : (a : ℕ) (x : At_agent) (seat : Seat Version) → IsBrought x → IsSeat s Among seat
           → Keeps (at_agent s (closes s) state given a x seat)
-      agent_keeps a (Call_comes call) seat k h = comes_keep a [] (Calls call) seat k h
-      agent_keeps a Turn_comes seat k h = comes_keep a [] Turns seat tt h
+      agent_keeps a (Call_comes call) seat k h = comes_if_keep (is_up seat.agent.life) a (Calls call) seat k h
+      agent_keeps a Turn_comes seat k h = comes_if_keep (is_up seat.agent.life) a Turns seat tt h
+      agent_keeps a Crash_comes seat k h = comes_if_keep (is_up seat.agent.life) a Crashes seat tt h
+      agent_keeps a Start_comes seat k h = comes_if_keep (not (is_up seat.agent.life)) a Starts seat tt h
 
       space_keeps : (a : ℕ) (x : At_space) (seat : Seat Version) → IsSeat s Among seat → Keeps (at_space s (closes s) state given a x seat)
       space_keeps a Step_served seat h = serves_keep a seat seat.asked h h.1
@@ -127,7 +145,7 @@ module _ (s : Setup) (Among : (c : ℕ) → (bytes : List ℕ) → Type 0) where
       place_keeps m (Cloud_has c Request_answered) k = answers_keep c m
       place_keeps m (Cloud_has c Answer_given) k = gives_keep c m k
       place_keeps m (Cloud_has c Message_moved) k = moves_keep m
-      place_keeps m Nowhere k = λ sent. is
+      place_keeps m (Clock_has ticks) k = λ sent. is
 
 -- f + 1 good pieces of different clouds under a version's root give back its bytes
 abbrev pub GivesBack : (s : Setup) → (Among : (c : ℕ) → (bytes : List ℕ) → Type 0) → Type 0

@@ -1,6 +1,7 @@
 -- What an event does, where a version is something else.
-use Rattle.std.proofs.Common.{◌≡◌, ℕ, List, [], ◌∷◌, ◌++◌, map, Option, Some, None, refl, ap, subst, ◌∙◌}
-use Rattle.std.specs.Prelude.{slice_get}
+use Rattle.std.proofs.Common.{◌≡◌, ℕ, List, [], ◌∷◌, ◌++◌, map, Bool, true, false, not, Option, Some, None, refl, ap, subst, ◌∙◌}
+use Rattle.std.specs.Prelude.{slice_get, if◌then◌else◌}
+use Rattle.scfs_base.specs.declared.naming.RequestNo.{RequestNo}
 use Rattle.scfs_base.specs.declared.naming.UploadNo.{UploadNo}
 use Rattle.scfs_schedule.specs.declared.types.Event.{Event}
 use Rattle.scfs_schedule.specs.declared.types.Line.{Line}
@@ -14,10 +15,11 @@ use Rattle.scfs_machine.specs.Given.{Given}
 use Rattle.scfs_machine.specs.Tree.{live}
 use Rattle.scfs_machine.specs.Steps.{Served, served, served_line}
 use Rattle.scfs_machine.specs.Sayings.{said_by}
-use Rattle.scfs_machine.specs.Agents.{Request, Input, Calls, Tells, Hears, Turns, Sent, Reaction}
+use Rattle.scfs_machine.specs.Lives.{is_up}
+use Rattle.scfs_machine.specs.Agents.{Request, Input, Calls, Tells, Hears, Turns, Crashes, Starts, Sent, Reaction}
 use Rattle.scfs_machine.specs.Reactions.{reacted}
-use Rattle.scfs_machine.specs.Events.{At_agent, Call_comes, Turn_comes, At_space, Step_served, Step_postponed, Reply_told, Request_answered, Answer_given, Message_moved, Place, Agent_has, Space_has, Cloud_has, Nowhere, place_of}
-use Rattle.scfs_machine.specs.States.{Reply, Seat, State, Effect, request_line, sum_of, leaving, with_seat, at_seat, postpones, moves, did, comes, serves, tells, answers_by, gives, at_agent, at_space, at_place, effect}
+use Rattle.scfs_machine.specs.Events.{At_agent, Call_comes, Turn_comes, Crash_comes, Start_comes, At_space, Step_served, Step_postponed, Reply_told, Request_answered, Answer_given, Message_moved, Place, Agent_has, Space_has, Cloud_has, Clock_has, place_of}
+use Rattle.scfs_machine.specs.States.{Reply, Seat, State, Effect, request_line, sum_of, leaving, skips, with_seat, at_seat, is_there, postpones, moves, did, comes, comes_if, comes_back, serves, tells, answers_by, gives, at_agent, at_space, at_place, effect}
 use Rattle.scfs_machine.specs.Mapped as to
 use Rattle.scfs_machine.specs.Mapped.{Own, through}
 use Rattle.scfs_machine.specs.Sound.{FitsAt, FitsGiven, FitsPlace}
@@ -79,6 +81,25 @@ module _ {V W : Type 0} (s : Setup) (ws : Versions W) (g : V → W) (own : Own V
       ap (λ r. did s (to.state g x) a (to.seat g seat) before r) (same_reacted s ws g own a closes seat.agent given y fits)
       ∙ same_did x a seat before (reacted s vs a seat.agent given y)
 
+  same_comes_if : (can : Bool) (x : State V) (a : ℕ) (given : Given) (y : Input V) (seat : Seat V) → FitsInput s ws g own a closes seat.agent y
+      → comes_if s ws can (to.state g x) a given (to.input g y) (to.seat g seat) ≡ to.effect g (comes_if s vs can x a given y seat)
+  same_comes_if true x a given y seat fits = same_comes x a given [] y seat fits
+  same_comes_if false x a given y seat fits = refl
+
+  back_if : (there : Bool) (x : State V) (a : ℕ) (given : Given) (request : RequestNo) (before : List Line) (y : Input V) (seat : Seat V)
+      → FitsInput s ws g own a closes seat.agent y
+      → (if there then comes s ws (to.state g x) a given before (to.input g y) (to.seat g seat)
+      else leaving (with_seat (to.state g x) a (to.seat g seat)) (lines.Gone request ∷ []))
+      ≡ to.effect g (if there then comes s vs x a given before y seat else leaving (with_seat x a seat) (lines.Gone request ∷ []))
+  back_if true x a given request before y seat fits = same_comes x a given before y seat fits
+  back_if false x a given request before y seat fits = ap (λ z. leaving z (lines.Gone request ∷ [])) (same_with g x a seat)
+
+  same_back : (x : State V) (a : ℕ) (given : Given) (request : RequestNo) (before : List Line) (y : Input V) (seat : Seat V)
+      → FitsInput s ws g own a closes seat.agent y
+      → comes_back s ws (to.state g x) a given request before (to.input g y) (to.seat g seat)
+      ≡ to.effect g (comes_back s vs x a given request before y seat)
+  same_back x a given request before y seat fits = back_if (is_there seat.agent request) x a given request before y seat fits
+
   same_serves : (x : State V) (a : ℕ) (seat : Seat V) (asked : List (Request V))
       → serves s ws (to.state g x) a (to.seat g seat) (map (to.request g) asked) ≡ to.effect g (serves s vs x a seat asked)
   same_serves x a seat [] = refl
@@ -99,7 +120,8 @@ module _ {V W : Type 0} (s : Setup) (ws : Versions W) (g : V → W) (own : Own V
   same_tells : (x : State V) (a : ℕ) (given : Given) (seat : Seat V) (replied : List (Reply V))
       → tells s ws (to.state g x) a given (to.seat g seat) (map (to.reply g) replied) ≡ to.effect g (tells s vs x a given seat replied)
   same_tells x a given seat [] = refl
-  same_tells x a given seat (oldest ∷ rest) = same_comes x a given [] (Tells oldest.number oldest.outcome) (record seat { replied = rest }) _
+  same_tells x a given seat (oldest ∷ rest) =
+      same_back x a given oldest.number [] (Tells oldest.number oldest.outcome) (record seat { replied = rest }) _
 
   same_answers : (x : State V) (c : ℕ) (m : Option Message) → answers_by s (to.state g x) c m ≡ to.effect g (answers_by s x c m)
   same_answers x c None = refl
@@ -112,13 +134,15 @@ module _ {V W : Type 0} (s : Setup) (ws : Versions W) (g : V → W) (own : Own V
   same_gives x given c (Some (Of_request request)) fits = refl
   same_gives x given c (Some (Of_answer request answer)) fits =
       same_at g x request.agent _ _ (λ seat is.
-      same_comes x request.agent given (lines.Gave c request (sum_of s answer) ∷ []) (Hears c request answer) seat
+      same_back x request.agent given request (lines.Gave c request (sum_of s answer) ∷ []) (Hears c request answer) seat
       (subst (λ y. FitsAt s Fits c request answer y) is fits))
 
   same_at_agent : (x : State V) (given : Given) (a : ℕ) (y : At_agent) (seat : Seat V)
       → at_agent s ws (to.state g x) given a y (to.seat g seat) ≡ to.effect g (at_agent s vs x given a y seat)
-  same_at_agent x given a (Call_comes call) seat = same_comes x a given [] (Calls call) seat _
-  same_at_agent x given a Turn_comes seat = same_comes x a given [] Turns seat _
+  same_at_agent x given a (Call_comes call) seat = same_comes_if (is_up seat.agent.life) x a given (Calls call) seat _
+  same_at_agent x given a Turn_comes seat = same_comes_if (is_up seat.agent.life) x a given Turns seat _
+  same_at_agent x given a Crash_comes seat = same_comes_if (is_up seat.agent.life) x a given Crashes seat _
+  same_at_agent x given a Start_comes seat = same_comes_if (not (is_up seat.agent.life)) x a given Starts seat _
 
   same_at_space : (x : State V) (given : Given) (a : ℕ) (y : At_space) (seat : Seat V)
       → at_space s ws (to.state g x) given a y (to.seat g seat) ≡ to.effect g (at_space s vs x given a y seat)
@@ -133,7 +157,7 @@ module _ {V W : Type 0} (s : Setup) (ws : Versions W) (g : V → W) (own : Own V
   same_place x m given (Cloud_has c Request_answered) fits = same_answers x c m
   same_place x m given (Cloud_has c Answer_given) fits = same_gives x given c m fits
   same_place x m given (Cloud_has c Message_moved) fits = same_moves g x m
-  same_place x m given Nowhere fits = refl
+  same_place x m given (Clock_has ticks) fits = refl
 
   -- what an event does is the same, where what an open finds in it fits its version
   pub same_effect : (x : State V) (e : Event) (m : Option Message) (given : Given) → FitsPlace s Fits x m (place_of e)

@@ -1,14 +1,16 @@
 -- An agent that is told an outcome, where a version is something else.
 use Rattle.std.proofs.Common.{◌≡◌, ℕ, refl, ap, ◌∙◌}
-use Rattle.std.specs.Prelude.{if◌then◌else◌}
+use Rattle.std.specs.Prelude.{if◌then◌else◌, Ok, Err}
 use Rattle.scfs_base.specs.declared.naming.RequestNo.{RequestNo}
 use Rattle.scfs_machine.specs.Names.{same_request}
 use Rattle.scfs_machine.specs.Format.{Setup}
 use Rattle.scfs_machine.specs.Versions.{Versions}
 use Rattle.scfs_machine.specs.Given.{Given}
+use Rattle.scfs_machine.specs.Walks.{OrRefusal}
+use Rattle.scfs_machine.specs.LockSteps.{Lock_step, Unlock, Unlock_all, Renew, Lock_outcome, Frees, Renews}
 use Rattle.scfs_machine.specs.Steps.{Outcome, Of_names, Of_locks, Of_sessions}
 use Rattle.scfs_machine.specs.Agents.{Request, Agent, silent}
-use Rattle.scfs_machine.specs.Told.{is_pending, untold, told, tells}
+use Rattle.scfs_machine.specs.Told.{is_pending, untold, told_locks, told, tells}
 use Rattle.scfs_machine.specs.Mapped as to
 use Rattle.scfs_machine.specs.Mapped.{Own, through}
 use Rattle.scfs_machine.proofs.ListMaps.{any_map, without_map}
@@ -24,6 +26,15 @@ module _ {V W : Type 0} (g : V → W) where
   same_untold a number =
       ap (λ pending. record (to.agent g a) { pending = pending }) (without_map (to.request g) (λ (x : Request W). same_request x.number number) a.pending)
 
+  same_told_locks : (a : Agent V) (x : Lock_step) (r : OrRefusal Lock_outcome) → told_locks (to.agent g a) x r ≡ to.reaction g (told_locks a x r)
+  same_told_locks a (Unlock file h) r = refl
+  same_told_locks a Unlock_all (Ok (Frees count)) = refl
+  same_told_locks a Unlock_all (Ok (Renews l)) = refl
+  same_told_locks a Unlock_all (Err why) = refl
+  same_told_locks a (Renew file h) (Ok (Frees count)) = refl
+  same_told_locks a (Renew file h) (Ok (Renews l)) = refl
+  same_told_locks a (Renew file h) (Err why) = refl
+
 module _ {V W : Type 0} (s : Setup) (ws : Versions W) (g : V → W) (own : Own V) (who : ℕ) where
   abbrev vs : Versions V
   vs = through ws g own
@@ -31,7 +42,7 @@ module _ {V W : Type 0} (s : Setup) (ws : Versions W) (g : V → W) (own : Own V
   same_told : (a : Agent V) (given : Given) (number : RequestNo) (o : Outcome V)
       → told s ws who (to.agent g a) given number (to.outcome g o) ≡ to.reaction g (told s vs who a given number o)
   same_told a given number (Of_names x r) = refl
-  same_told a given number (Of_locks x r) = refl
+  same_told a given number (Of_locks x r) = same_told_locks g a x r
   same_told a given number (Of_sessions x r) = same_told_sessions ws g own s who a given number x r
 
   pub same_tells : (a : Agent V) (given : Given) (number : RequestNo) (o : Outcome V)

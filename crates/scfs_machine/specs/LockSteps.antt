@@ -45,10 +45,15 @@ lock_outcome locks until request (Unlock file session) = Ok (Frees (freed locks 
 lock_outcome locks until request Unlock_all = Ok (Frees (freed locks request Unlock_all))
 lock_outcome locks until request (Renew file session) = renewed until (session_lock locks request file session)
 
--- the locks after it; a lock that is renewed is put anew
+-- the locks with the lock that a step renews put anew
+abbrev pub put_anew : List Lock → RequestNo → Lock_step → Lock → List Lock
+put_anew locks request (Renew file session) l = without_first (is_lock_by request file session) locks ++ l ∷ []
+put_anew locks request other l = locks
+
+-- the locks after it
 abbrev pub locks_after : List Lock → RequestNo → Lock_step → Lock_outcome → List Lock
 locks_after locks request step (Frees count) = filter (λ (l : Lock). not (frees request step l)) locks
-locks_after locks request step (Renews l) = without_first (is_lock_by request l.file l.session) locks ++ l ∷ []
+locks_after locks request step (Renews l) = put_anew locks request step l
 
 -- its line, where the space serves it
 abbrev pub lock_line : RequestNo → Lock_outcome → Line
