@@ -10,10 +10,10 @@ use Rattle.scfs_machine.specs.Given.{Given, given_of}
 use Rattle.scfs_machine.specs.Tree.{Tree, live}
 use Rattle.scfs_machine.specs.Walks.{OrRefusal}
 use Rattle.scfs_machine.specs.NameSteps.{Name_outcome, Makes, Shows, name_line, name_outcome}
-use Rattle.scfs_machine.specs.LockSteps.{Unlock}
+use Rattle.scfs_machine.specs.LockSteps.{Lock_outcome, Frees, Renews, lock_line, lock_outcome}
 use Rattle.scfs_machine.specs.SessionSteps.{session_line}
 use Rattle.scfs_machine.specs.Steps.{Step, On_names, On_locks, On_sessions, line_of, served, served_line}
-use Rattle.scfs_machine.specs.Agents.{Input, Tells, Reaction}
+use Rattle.scfs_machine.specs.Agents.{Input, Tells, Starts, Reaction}
 use Rattle.scfs_machine.specs.Reactions.{reacted}
 use Rattle.scfs_machine.specs.Events.{place_of}
 use Rattle.scfs_machine.specs.States.{Seat, State, comes}
@@ -39,10 +39,15 @@ module _ {V : Type 0} (s : Setup) (vs : Versions V) (keeps : CompletionKeeps vs)
   held_name tree request (Ok (Shows n)) = tt
   held_name tree request (Err why) = tt
 
+  held_lock : (tree : Tree V) (request : RequestNo) (r : OrRefusal Lock_outcome) → LineHeld tree (line_of request lock_line r)
+  held_lock tree request (Ok (Frees count)) = tt
+  held_lock tree request (Ok (Renews l)) = tt
+  held_lock tree request (Err why) = tt
+
   held_step : (tree : Tree V) (now lease : ℕ) (request : RequestNo) (step : Step V)
       → LineHeld tree (served_line vs request (served vs tree now lease request step).outcome)
   held_step tree now lease request (On_names x) = held_name tree request (name_outcome tree.nodes x)
-  held_step tree now lease request (On_locks (Unlock file session)) = tt
+  held_step tree now lease request (On_locks x) = held_lock tree request (lock_outcome tree.locks (now + lease) request x)
   held_step tree now lease request (On_sessions x) =
       session_cases vs tree now (now + lease) request (λ n. Unit {0}) (each-always _ (λ n. tt) tree.nodes)
       (λ r. LineHeld tree (line_of request (session_line vs) r)) (λ why. tt)
@@ -69,7 +74,11 @@ module _ {V : Type 0} (s : Setup) (vs : Versions V) (keeps : CompletionKeeps vs)
       (rw same (of_place s vs state given (λ x. Each (LineHeld tree) x.lines)
       (record {
         nothing = λ shown h. each-map IsIdle (LineHeld tree) (λ l k. of_agent tree l (idle_of_agent l k)) shown h;
+        later = λ ticks. tt;
+        missed = λ a seat oldest rest found h. (tt, tt);
+        gone = λ a seat number found. (tt, tt);
         come = λ a seat before input found h k. held_comes tree state given a seat before input h;
+        start = λ a seat found. held_comes tree state given a seat [] Starts tt;
         told = λ a seat oldest rest found h. held_comes tree state given a (record seat { replied = rest }) []
             (Tells oldest.number oldest.outcome) tt;
         serve = λ a seat oldest rest found h. (held_step tree state.clock s.header.lease oldest.number oldest.step, tt);

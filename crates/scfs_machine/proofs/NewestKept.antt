@@ -1,12 +1,12 @@
 -- What is known of an agent's open in progress, by its latest saw line, and reactions that keep it.
-use Rattle.std.proofs.Common.{◌≡◌, ℕ, List, [], ◌∷◌, ◌++◌, fold, refl, subst, sym, ◌∙◌, Option, Some, None, Ok, Err}
+use Rattle.std.proofs.Common.{◌≡◌, ℕ, List, [], ◌∷◌, ◌++◌, fold, refl, ap, subst, sym, ◌∙◌, Option, Some, None, Ok, Err}
 use Rattle.scfs_base.specs.declared.naming.RequestNo.{RequestNo}
 use Rattle.scfs_machine.specs.Versions.{Versions}
 use Rattle.scfs_machine.specs.SessionSteps.{Sight, Session_outcome, Sees, Locks, Completes}
 use Rattle.scfs_machine.specs.Steps.{Step, Outcome, Of_names, Of_locks, Of_sessions}
 use Rattle.scfs_machine.specs.Sayings.{Saying}
 use Rattle.scfs_machine.specs.Sayings as says
-use Rattle.scfs_machine.specs.Agents.{Opening, Waiting, For_step, For_clouds, For_close, Agent, Input, Calls, Tells, Hears, Turns, Reaction, silent, saying, asks_step, followed}
+use Rattle.scfs_machine.specs.Agents.{Opening, Waiting, For_step, For_clouds, For_close, Agent, Input, Calls, Tells, Hears, Turns, Crashes, Starts, Reaction, silent, saying, asks_step, followed}
 use Rattle.scfs_machine.specs.Newest.{Saw_line, IsFrom}
 use Rattle.scfs_machine.proofs.NewestLists.{Each, each-map, each-append}
 use Rattle.scfs_machine.proofs.NewestDraws.{Draws, draws_nothing, draws_step, draws-followed, MakesIn, base_of}
@@ -37,6 +37,10 @@ after_quiet latest (says.Truncated session size ∷ xs) h = after_quiet latest x
 after_quiet latest (says.Ended session ∷ xs) h = after_quiet latest xs h.1
 after_quiet latest (says.Stored session number ∷ xs) h = after_quiet latest xs h.1
 after_quiet latest (says.Refuses why ∷ xs) h = after_quiet latest xs h.1
+after_quiet latest (says.Lapsed session ∷ xs) h = after_quiet latest xs h.1
+after_quiet latest (says.Crashed ∷ xs) h = after_quiet latest xs h.1
+after_quiet latest (says.Started incarnation ∷ xs) h = after_quiet latest xs h.1
+after_quiet latest (says.Ready ∷ xs) h = after_quiet latest xs h.1
 
 pub after-append : (latest : Option Saw_line) (xs ys : List Saying) → after_says latest (xs ++ ys) ≡ after_says (after_says latest xs) ys
 after-append latest [] ys = refl
@@ -91,6 +95,8 @@ module _ {V : Type 0} (vs : Versions V) (a : ℕ) (K : Saw_line → (number : �
   InputOk (Tells request o) = ReplyOk request o
   InputOk (Hears c request answer) = Unit {0}
   InputOk Turns = Unit {0}
+  InputOk Crashes = Unit {0}
+  InputOk Starts = ⊥
 
   -- a reaction that says nothing of opens, and keeps what is known
   abbrev pub Steady : (k : ℕ) → Agent V → Reaction V → Type 0
@@ -112,6 +118,10 @@ module _ {V : Type 0} (vs : Versions V) (a : ℕ) (K : Saw_line → (number : �
   quiet_ok latest (says.Ended session) h = tt
   quiet_ok latest (says.Stored session number) h = tt
   quiet_ok latest (says.Refuses why) h = tt
+  quiet_ok latest (says.Lapsed session) h = tt
+  quiet_ok latest says.Crashed h = tt
+  quiet_ok latest (says.Started incarnation) h = tt
+  quiet_ok latest says.Ready h = tt
 
   pub whole_of-steady : (k : ℕ) (latest : Option Saw_line) (g : Agent V) (r : Reaction V) → WaitOk latest g.waiting → Steady k g r
       → Whole k latest g r
@@ -134,6 +144,20 @@ module _ {V : Type 0} (vs : Versions V) (a : ℕ) (K : Saw_line → (number : �
             (subst (λ x. Each (SayOk x) first.says) (sym same) h.1)
             (each-map _ _ (quiet_ok (after_says latest (first.says ++ second.says))) second.says n.1),
         subst (λ x. WaitOk x second.agent.waiting) (sym same) (n.2 (after_says latest first.says) h.2),
+      )
+
+  -- something quiet before it
+  pub steady-whole : (k : ℕ) (latest : Option Saw_line) (g : Agent V) (first : Reaction V) (next : Agent V → Reaction V)
+      → Steady k g first → Whole 0 latest first.agent (next first.agent) → Whole k latest g (followed first next)
+  steady-whole k latest g first next h n =
+      let second : Reaction V = next first.agent in
+      let same : after_says latest (first.says ++ second.says) ≡ after_says latest second.says =
+      after-append latest first.says second.says ∙ ap (λ x. after_says x second.says) (after_quiet latest first.says h.1)
+      in (
+        draws-followed a k g first next h.0 n.0,
+        subst (λ x. Each (SayOk x) (first.says ++ second.says)) (sym same)
+            (each-append _ first.says second.says (each-map _ _ (quiet_ok (after_says latest second.says)) first.says h.1) n.1),
+        subst (λ x. WaitOk x second.agent.waiting) (sym same) n.2,
       )
 
   pub steady-followed : (k : ℕ) (g : Agent V) (first : Reaction V) (next : Agent V → Reaction V)

@@ -30,6 +30,7 @@ IsOfAgent other = Unit {0}
 
 pub idle_of_agent : (l : Line) → IsIdle l → IsOfAgent l
 idle_of_agent lines.Skip h = tt
+idle_of_agent (lines.Gone request) h = tt
 idle_of_agent (lines.Did c request sum) h = tt
 idle_of_agent (lines.Gave c request sum) h = tt
 idle_of_agent _ h = absurd h
@@ -45,6 +46,10 @@ said_of_agent a (says.Truncated session size) = tt
 said_of_agent a (says.Ended session) = tt
 said_of_agent a (says.Stored session number) = tt
 said_of_agent a (says.Refuses why) = tt
+said_of_agent a (says.Lapsed session) = tt
+said_of_agent a says.Crashed = tt
+said_of_agent a (says.Started incarnation) = tt
+said_of_agent a says.Ready = tt
 
 pub request_of_agent : (s : Setup) (number : RequestNo) (c : ℕ) (body : CloudRequest) → IsOfAgent (request_line s number c body)
 request_of_agent s number c (requests.Put name body) = tt

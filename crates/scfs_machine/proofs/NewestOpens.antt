@@ -1,5 +1,5 @@
--- In every run of at most 2^32 events each open is of the newest version of its file.
-use Rattle.std.proofs.Common.{◌≡◌, ℕ, ◌^◌, ◌≤◌, List, [], ◌∷◌, ◌++◌, length, refl, sym, subst, Some, fold, arith, slice_get, le_refl}
+-- In every run of fewer than 2^24 events each open is of the newest version of its file.
+use Rattle.std.proofs.Common.{◌≡◌, ℕ, ◌^◌, ◌<◌, List, [], ◌∷◌, ◌++◌, length, refl, sym, subst, Some, fold, arith, slice_get, le_refl}
 use Rattle.scfs_base.specs.declared.naming.RequestNo.{RequestNo}
 use Rattle.scfs_schedule.specs.declared.types.Line.{Line}
 use Rattle.scfs_schedule.specs.declared.types.Line.TheVariants as lines
@@ -22,7 +22,7 @@ use Rattle.scfs_machine.proofs.NewestServes.{IsOfStep, serve_line, serve_tree}
 use Rattle.scfs_machine.proofs.NewestSeats.{SeatOk}
 use Rattle.scfs_machine.proofs.NewestSaid.{LineOk}
 use Rattle.scfs_machine.proofs.NewestPlaces.{served_seat, other_seat}
-use Rattle.scfs_machine.proofs.NewestStates.{StateOk, IsFine, fine_nothing, fine_come, fine_told, fine_postpone}
+use Rattle.scfs_machine.proofs.NewestStates.{StateOk, IsFine, fine_nothing, fine_later, fine_missed, fine_gone, fine_come, fine_start, fine_told, fine_postpone}
 use Rattle.scfs_machine.proofs.NamesEvents.{of_place}
 
 step_ok : (past : History) (e : Entry) (request : RequestNo) (l : Line) → IsOfStep request l → LineOk past e l
@@ -31,7 +31,7 @@ step_ok past e request (lines.Opened a h number source size) k = absurd k
 step_ok past e request _ k = tt
 
 module _ {V : Type 0} (s : Setup) (vs : Versions V) (keeps : CompletionKeeps vs) where
-  module _ (past : History) (e : Entry) (state : State V) (given : Given) (small : length (e ∷ past) ≤ 2 ^ 32) (h : StateOk vs past state) where
+  module _ (past : History) (e : Entry) (state : State V) (given : Given) (small : length (e ∷ past) < 2 ^ 24) (h : StateOk vs past state) where
     fine_serve : (a : ℕ) (seat : Seat V) (oldest : Request V) (rest : List (Request V)) → slice_get state.seats a ≡ Some seat
         → seat.asked ≡ oldest ∷ rest
         → IsFine s vs keeps past e state given small h (serves s vs state a seat (oldest ∷ rest))
@@ -40,13 +40,13 @@ module _ {V : Type 0} (s : Setup) (vs : Versions V) (keeps : CompletionKeeps vs)
         let now : ℕ = state.clock in
         let lease : ℕ = s.header.lease in
         let x : Served V = served vs t now lease oldest.number oldest.step in
-        let g : SeatOk vs past state.tree.nodes a (record seat { asked = oldest ∷ rest }) =
-        subst (λ xs. SeatOk vs past state.tree.nodes a (record seat { asked = xs })) is (h.seats a seat found)
+        let g : SeatOk vs past (length past) state.tree.nodes a (record seat { asked = oldest ∷ rest }) =
+        subst (λ xs. SeatOk vs past (length past) state.tree.nodes a (record seat { asked = xs })) is (h.seats a seat found)
         in (
           record {
             tree = subst (λ xs. TreeOk vs (λ id. fold (after_commit id) (last_committed id past) xs) x.tree.nodes x.tree.versions) (sym same)
                 (serve_tree vs keeps t now lease oldest.number (λ id. last_committed id past) h.tree oldest.step g.new.0);
-            seats = places_set (SeatOk vs (e ∷ past) x.tree.nodes) state.seats a seat
+            seats = places_set (SeatOk vs (e ∷ past) (length (e ∷ past)) x.tree.nodes) state.seats a seat
                 (record seat { asked = rest; replied = seat.replied ++ (record { number = oldest.number; outcome = x.outcome }) ∷ [] }) found
                 (served_seat vs keeps past e t now lease a seat oldest rest same g h.tree)
                 (λ b other y there. other_seat vs keeps past e t now lease a seat oldest rest same g b other y (omega (arith, small))
@@ -59,11 +59,11 @@ module _ {V : Type 0} (s : Setup) (vs : Versions V) (keeps : CompletionKeeps vs)
   first_ok =
       record {
         tree = record { apart = tt; newest = tt; fresh = λ id none. refl };
-        seats = places_replicate (SeatOk vs [] []) (length s.header.agents) (first_seat s) (λ a.
-            record { incarnation = refl; files = le_refl _; ahead = tt; drawn = tt; new = tt; apart = tt; replied = tt; waiting = tt });
+        seats = places_replicate (SeatOk vs [] 0 []) (length s.header.agents) (first_seat s) (λ a.
+            record { incarnation = le_refl _; files = le_refl _; ahead = tt; drawn = tt; new = tt; apart = tt; replied = tt; waiting = tt });
       }
 
-  fine_event : (past : History) (e : Entry) → length (e ∷ past) ≤ 2 ^ 32 → e.lines ≡ (effect_of s vs (state_after s vs past) e).lines
+  fine_event : (past : History) (e : Entry) → length (e ∷ past) < 2 ^ 24 → e.lines ≡ (effect_of s vs (state_after s vs past) e).lines
       → StateOk vs past (state_after s vs past) → StateOk vs (e ∷ past) (state_after s vs (e ∷ past)) × Each (LineOk past e) e.lines
   fine_event past e small same h =
       let state : State V = state_after s vs past in
@@ -71,6 +71,10 @@ module _ {V : Type 0} (s : Setup) (vs : Versions V) (keeps : CompletionKeeps vs)
       of_place s vs state given (IsFine s vs keeps past e state given small h)
       (record {
         nothing = fine_nothing s vs keeps past e state given small h;
+        later = fine_later s vs keeps past e state given small h;
+        missed = fine_missed s vs keeps past e state given small h;
+        gone = fine_gone s vs keeps past e state given small h;
+        start = fine_start s vs keeps past e state given small h;
         come = fine_come s vs keeps past e state given small h;
         told = fine_told s vs keeps past e state given small h;
         serve = fine_serve past e state given small h;
@@ -78,23 +82,23 @@ module _ {V : Type 0} (s : Setup) (vs : Versions V) (keeps : CompletionKeeps vs)
       })
       e.message (place_of e.event) same
 
-  state_ok : (past : History) → length past ≤ 2 ^ 32 → Follows s vs past → StateOk vs past (state_after s vs past)
+  state_ok : (past : History) → length past < 2 ^ 24 → Follows s vs past → StateOk vs past (state_after s vs past)
   state_ok [] small follows = first_ok
   state_ok (e ∷ past) small follows =
       (fine_event past e small follows.0 (state_ok past (omega (arith, small)) follows.1)).0
 
-  opens_newest : (past : History) → length past ≤ 2 ^ 32 → Follows s vs past → OpensNewest past
+  opens_newest : (past : History) → length past < 2 ^ 24 → Follows s vs past → OpensNewest past
   opens_newest [] small follows = tt
   opens_newest (e ∷ past) small follows =
-      let less : length past ≤ 2 ^ 32 = omega (arith, small) in
+      let less : length past < 2 ^ 24 = omega (arith, small) in
       let fine : Each (LineOk past e) e.lines = (fine_event past e small follows.0 (state_ok past less follows.1)).1 in (
         (λ request file number inside. each_of-contains (LineOk past e) e.lines (lines.Saw request file number) fine inside),
         (λ a h number source size inside. each_of-contains (LineOk past e) e.lines (lines.Opened a h number source size) fine inside),
         opens_newest past less follows.1,
       )
 
--- in every run of at most 2^32 events each open is of the newest version of its file
-pub opens_are_newest : {V : Type 0} (s : Setup) (vs : Versions V) (past : History) → CompletionKeeps vs → length past ≤ 2 ^ 32 → Follows s vs past
+-- in every run of fewer than 2^24 events each open is of the newest version of its file
+pub opens_are_newest : {V : Type 0} (s : Setup) (vs : Versions V) (past : History) → CompletionKeeps vs → length past < 2 ^ 24 → Follows s vs past
     → OpensNewest past
 opens_are_newest s vs past keeps small follows = opens_newest s vs keeps past small follows
 
@@ -105,8 +109,8 @@ pub closes_keep : (s : Setup) → CompletionKeeps (closes s)
 closes_keep s = record { file = λ v now. refl; number = λ v now. refl }
 
 -- in all that happens, and in every run of the file map
-pub opens_are_newest_rows : (s : Setup) (past : History) → length past ≤ 2 ^ 32 → Happens s past → OpensNewest past
+pub opens_are_newest_rows : (s : Setup) (past : History) → length past < 2 ^ 24 → Happens s past → OpensNewest past
 opens_are_newest_rows s past small happens = opens_are_newest s rows past rows_keep small happens
 
-pub opens_are_newest_closes : (s : Setup) (past : History) → length past ≤ 2 ^ 32 → Run s past → OpensNewest past
+pub opens_are_newest_closes : (s : Setup) (past : History) → length past < 2 ^ 24 → Run s past → OpensNewest past
 opens_are_newest_closes s past small run = opens_are_newest s (closes s) past (closes_keep s) small run

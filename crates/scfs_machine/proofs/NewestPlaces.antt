@@ -1,5 +1,5 @@
 -- What is known of seats stays known when a step is served.
-use Rattle.std.proofs.Common.{◌≡◌, ℕ, ◌+◌, ◌^◌, ◌≤◌, List, [], ◌∷◌, ◌++◌, length, false, cond, ◌||◌, refl, sym, subst, ap, ◌∙◌, Some, Ok, Err, arith, le_trans}
+use Rattle.std.proofs.Common.{◌≡◌, ℕ, ◌+◌, ◌^◌, ◌<◌, ◌≤◌, List, [], ◌∷◌, ◌++◌, length, false, cond, ◌||◌, refl, sym, subst, ap, ◌∙◌, Some, Ok, Err, arith, le_trans}
 use Rattle.std.specs.List.{list_any}
 use Rattle.scfs_base.specs.declared.naming.RequestNo.{RequestNo}
 use Rattle.scfs_schedule.specs.declared.types.Line.{Line}
@@ -8,7 +8,6 @@ use Rattle.scfs_machine.specs.History.{Entry, History}
 use Rattle.scfs_machine.specs.Versions.{Versions}
 use Rattle.scfs_machine.specs.Tree.{Tree}
 use Rattle.scfs_machine.specs.Walks.{OrRefusal}
-use Rattle.scfs_machine.specs.LockSteps.{Unlock}
 use Rattle.scfs_machine.specs.SessionSteps.{Sight, Session_step, Session_outcome, Sees, Locks, Completes, session_outcome}
 use Rattle.scfs_machine.specs.Steps.{Step, On_names, On_locks, On_sessions, Of_sessions, Served, served}
 use Rattle.scfs_machine.specs.Agents.{Request}
@@ -21,21 +20,21 @@ use Rattle.scfs_machine.proofs.NewestKept.{SightOk, ReplyOk, WaitOk, wait_map, r
 use Rattle.scfs_machine.proofs.NewestTree.{MakesNew, TreeOk}
 use Rattle.scfs_machine.proofs.NewestServes.{IsOfStep, line_at, serve_ids, serve_line, SeenAt, SeenBy, serve_seen}
 use Rattle.scfs_machine.proofs.NewestLines.{IsNoSawBy, no_saws}
-use Rattle.scfs_machine.proofs.NewestSeats.{NotAhead, IsServed, KnownBy, IsAsked, known_on, SeatOk, seat_stays}
+use Rattle.scfs_machine.proofs.NewestSeats.{Drawn, drawn_by, files_by, few_files, NotAhead, IsServed, KnownBy, IsAsked, known_on, SeatOk, seat_stays}
 use Rattle.scfs_machine.proofs.NewestServed.{other_agent, other_number, serves_other, one_unseen, made_behind, made_elsewhere, elsewhere_apart, still_new}
 
 module _ {V : Type 0} (vs : Versions V) (keeps : CompletionKeeps vs) (past : History) (e : Entry) (tree : Tree V) (now lease a : ℕ) (seat : Seat V)
     (oldest : Request V) (rest : List (Request V))
     (same : e.lines ≡ line_at vs keeps tree now lease oldest.number oldest.step ∷ [])
-    (h : SeatOk vs past tree.nodes a (record seat { asked = oldest ∷ rest })) where
+    (h : SeatOk vs past (length past) tree.nodes a (record seat { asked = oldest ∷ rest })) where
   abbrev x : Served V
   x = served vs tree now lease oldest.number oldest.step
 
   abbrev l : Line
   l = line_at vs keeps tree now lease oldest.number oldest.step
 
-  abbrev q : ℕ
-  q = seat.agent.requests
+  abbrev q : Drawn
+  q = drawn_by seat.agent
 
   its_line : IsOfStep oldest.number l
   its_line = serve_line vs keeps tree now lease oldest.number oldest.step
@@ -69,7 +68,7 @@ module _ {V : Type 0} (vs : Versions V) (keeps : CompletionKeeps vs) (past : His
             k.0,
           ),
         ),
-        (h.drawn.0.0, h.drawn.0.1, each-map _ _ (λ y apart e2. apart.0 (sym e2)) rest h.apart.0),
+        (h.drawn.0.0, h.drawn.0.1, each-map _ _ (λ y apart e2 e3. apart.0 (sym e2) (sym e3)) rest h.apart.0),
       ),
       k.1,
     )
@@ -85,7 +84,7 @@ module _ {V : Type 0} (vs : Versions V) (keeps : CompletionKeeps vs) (past : His
     seen_step : (step : Step V) → (step ≡ oldest.step)
         → ReplyOk vs a (KnownBy (e ∷ past) a q rest) oldest.number (served vs tree now lease oldest.number step).outcome
     seen_step (On_names y) is = tt
-    seen_step (On_locks (Unlock file session)) is = tt
+    seen_step (On_locks y) is = tt
     seen_step (On_sessions y) is =
         reply_seen y (session_outcome vs tree now (now + lease) oldest.number y)
         (subst (λ z. SeenBy vs keeps tree now lease oldest.number (λ id. last_committed id past) committed
@@ -93,14 +92,14 @@ module _ {V : Type 0} (vs : Versions V) (keeps : CompletionKeeps vs) (past : His
         (serve_seen vs keeps tree now lease oldest.number (λ id. last_committed id past) committed y))
 
     -- the seat whose step is served
-    pub served_seat : SeatOk vs (e ∷ past) x.tree.nodes a
+    pub served_seat : SeatOk vs (e ∷ past) (length (e ∷ past)) x.tree.nodes a
         (record seat { asked = rest; replied = seat.replied ++ (record { number = oldest.number; outcome = x.outcome }) ∷ [] })
     served_seat =
         record {
-          incarnation = h.incarnation;
+          incarnation = omega (arith, h.incarnation);
           files = omega (arith, h.files);
-          ahead = serve_ids vs keeps tree now lease oldest.number (NotAhead a seat.agent.files) oldest.step h.ahead
-              (made_behind a q seat.agent.files oldest h.drawn.0);
+          ahead = serve_ids vs keeps tree now lease oldest.number (NotAhead a (files_by seat.agent)) oldest.step h.ahead
+              (made_behind a q (files_by seat.agent) oldest h.drawn.0);
           drawn = h.drawn.1;
           new = each-two (λ (y : Request V). Apart oldest y) (λ (y : Request V). MakesNew tree.nodes y.step)
               (λ (y : Request V). MakesNew x.tree.nodes y.step)
@@ -114,16 +113,18 @@ module _ {V : Type 0} (vs : Versions V) (keeps : CompletionKeeps vs) (past : His
         }
 
   -- another seat
-  pub other_seat : (b : ℕ) → ¬ (b ≡ a) → (y : Seat V) → length past ≤ 2 ^ 32 → SeatOk vs past tree.nodes b y → SeatOk vs (e ∷ past) x.tree.nodes b y
+  pub other_seat : (b : ℕ) → ¬ (b ≡ a) → (y : Seat V) → length past < 2 ^ 24 → SeatOk vs past (length past) tree.nodes b y → SeatOk vs (e ∷ past) (length (e ∷ past)) x.tree.nodes b y
   other_seat b other y small g =
       seat_stays vs past e tree.nodes x.tree.nodes b y g
-      (serve_ids vs keeps tree now lease oldest.number (NotAhead b y.agent.files) oldest.step g.ahead
-      (made_elsewhere a b seat.agent.files y.agent.files oldest.step other (le_trans h.files small) h.drawn.0.2))
-      (each-two (λ (z : Request V). IsAsked b y.agent.requests y.agent.files z) (λ (z : Request V). MakesNew tree.nodes z.step)
+      (serve_ids vs keeps tree now lease oldest.number (NotAhead b (files_by y.agent)) oldest.step g.ahead
+      (made_elsewhere a b (files_by seat.agent) (files_by y.agent) oldest.step other
+      (few_files seat.agent (length past) h.incarnation h.files small) h.drawn.0.2))
+      (each-two (λ (z : Request V). IsAsked b (drawn_by y.agent) (files_by y.agent) z) (λ (z : Request V). MakesNew tree.nodes z.step)
       (λ (z : Request V). MakesNew x.tree.nodes z.step)
       (λ z k new. still_new vs keeps tree now lease oldest.number oldest.step z.step
-      (elsewhere_apart a b seat.agent.files y.agent.files oldest.step z.step other (le_trans h.files small)
-      (le_trans g.files small) h.drawn.0.2 k.2) new)
+      (elsewhere_apart a b (files_by seat.agent) (files_by y.agent) oldest.step z.step other
+      (few_files seat.agent (length past) h.incarnation h.files small) (few_files y.agent (length past) g.incarnation g.files small)
+      h.drawn.0.2 k.2) new)
       y.asked g.drawn g.new)
       (λ request k. unserved request (other_agent oldest.number request (λ e2. other (sym k ∙ (sym e2 ∙ h.drawn.0.0)))))
       (unseen b)

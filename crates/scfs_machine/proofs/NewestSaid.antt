@@ -16,7 +16,7 @@ use Rattle.scfs_machine.specs.Newest.{Saw_line, WasNewest, IsNewest, IsFrom, aft
 use Rattle.scfs_machine.proofs.NewestLists.{Each}
 use Rattle.scfs_machine.proofs.NewestKept.{Known, SayOk, after_says}
 use Rattle.scfs_machine.proofs.NewestLines.{IsNoSawBy}
-use Rattle.scfs_machine.proofs.NewestSeats.{KnownBy}
+use Rattle.scfs_machine.proofs.NewestSeats.{Drawn, KnownBy}
 use Rattle.scfs_machine.proofs.NamesEvents.{IsIdle}
 
 pub fold-append : {X Y : Type 0} (f : Y → X → Y) (y : Y) (xs zs : List X) → fold f y (xs ++ zs) ≡ fold f (fold f y xs) zs
@@ -69,6 +69,10 @@ module _ {V : Type 0} (vs : Versions V) (a : ℕ) (K : Saw_line → (number : �
   saw_said latest (says.Ended session ∷ xs) h = saw_said latest xs h.1
   saw_said latest (says.Stored session number ∷ xs) h = saw_said latest xs h.1
   saw_said latest (says.Refuses why ∷ xs) h = saw_said latest xs h.1
+  saw_said latest (says.Lapsed session ∷ xs) h = saw_said latest xs h.1
+  saw_said latest (says.Crashed ∷ xs) h = saw_said latest xs h.1
+  saw_said latest (says.Started incarnation ∷ xs) h = saw_said latest xs h.1
+  saw_said latest (says.Ready ∷ xs) h = saw_said latest xs h.1
 
   pub said_unseen : (b : ℕ) → ¬ (b ≡ a) → (x : Saying) → SayOk vs a K final x → IsNoSawBy b (said_by a x)
   said_unseen b other (says.Saw request file number) h = λ e. other (sym e ∙ h.0)
@@ -81,8 +85,12 @@ module _ {V : Type 0} (vs : Versions V) (a : ℕ) (K : Saw_line → (number : �
   said_unseen b other (says.Ended session) h = tt
   said_unseen b other (says.Stored session number) h = tt
   said_unseen b other (says.Refuses why) h = tt
+  said_unseen b other (says.Lapsed session) h = tt
+  said_unseen b other says.Crashed h = tt
+  said_unseen b other (says.Started incarnation) h = tt
+  said_unseen b other says.Ready h = tt
 
-module _ {V : Type 0} (vs : Versions V) (past : History) (e : Entry) (a drawn : ℕ) (asked : List (Request V)) where
+module _ {V : Type 0} (vs : Versions V) (past : History) (e : Entry) (a : ℕ) (drawn : Drawn) (asked : List (Request V)) where
   abbrev K : Saw_line → (number : ℕ) → Type 0
   K saw number = KnownBy past a drawn asked saw number
 
@@ -101,3 +109,7 @@ module _ {V : Type 0} (vs : Versions V) (past : History) (e : Entry) (a drawn : 
   said_ok (says.Ended session) h = tt
   said_ok (says.Stored session number) h = tt
   said_ok (says.Refuses why) h = tt
+  said_ok (says.Lapsed session) h = tt
+  said_ok says.Crashed h = tt
+  said_ok (says.Started incarnation) h = tt
+  said_ok says.Ready h = tt

@@ -1,5 +1,6 @@
 -- A step that is served serves no other request, and makes no file of another.
 use Rattle.std.proofs.Common.{◌≡◌, ℕ, ◌*◌, ◌^◌, ◌≤◌, List, Bool, false, true, ◌&&◌, refl, ap, ◌∙◌, arith, eqb}
+use Rattle.std.proofs.lemmas.Bool.{eqb-true}
 use Rattle.scfs_base.specs.declared.naming.RequestNo.{RequestNo}
 use Rattle.scfs_schedule.specs.declared.types.Line.{Line}
 use Rattle.scfs_schedule.specs.declared.types.Line.TheVariants as lines
@@ -12,11 +13,11 @@ use Rattle.scfs_machine.specs.Agents.{Request}
 use Rattle.scfs_machine.specs.TreeLaws.{CompletionKeeps}
 use Rattle.scfs_machine.specs.Newest.{is_service}
 use Rattle.scfs_machine.proofs.NewestLists.{eqb-apart}
-use Rattle.scfs_machine.proofs.NewestDraws.{MakesIn, FilesApart}
+use Rattle.scfs_machine.proofs.NewestDraws.{IsOther, MakesIn, FilesApart}
 use Rattle.scfs_machine.proofs.NewestTree.{MakesNew}
 use Rattle.scfs_machine.proofs.NewestServes.{IsOfStep, OfMade, serve_ids}
 use Rattle.scfs_machine.proofs.NewestLines.{IsNoSawBy}
-use Rattle.scfs_machine.proofs.NewestSeats.{NotAhead, IsAsked}
+use Rattle.scfs_machine.proofs.NewestSeats.{Drawn, NotAhead, IsAsked}
 
 -- a step's line serves no other request
 pub other_agent : (r q : RequestNo) → ¬ (r.agent ≡ q.agent) → same_request r q ≡ false
@@ -26,10 +27,16 @@ and-false : (b : Bool) → (b && false) ≡ false
 and-false true = refl
 and-false false = refl
 
-pub other_number : (r q : RequestNo) → ¬ (r.number ≡ q.number) → same_request r q ≡ false
-other_number r q other =
-    ap (λ b. eqb r.agent q.agent && eqb r.incarnation q.incarnation && b) (eqb-apart r.number q.number other)
+other_by : (r q : RequestNo) (b : Bool) → eqb r.incarnation q.incarnation ≡ b → IsOther r q → same_request r q ≡ false
+other_by r q true e other =
+    ap (λ b. eqb r.agent q.agent && eqb r.incarnation q.incarnation && b)
+    (eqb-apart r.number q.number (other (eqb-true r.incarnation q.incarnation e)))
     ∙ and-false (eqb r.agent q.agent && eqb r.incarnation q.incarnation)
+other_by r q false e other =
+    ap (λ b. eqb r.agent q.agent && b && eqb r.number q.number) e ∙ ap (λ b. b && eqb r.number q.number) (and-false (eqb r.agent q.agent))
+
+pub other_number : (r q : RequestNo) → IsOther r q → same_request r q ≡ false
+other_number r q other = other_by r q (eqb r.incarnation q.incarnation) refl other
 
 pub serves_other : (r q : RequestNo) (l : Line) → IsOfStep r l → same_request r q ≡ false → is_service q l ≡ false
 serves_other r q (lines.Looked other) h k = ap (λ x. same_request x q) h ∙ k
@@ -42,7 +49,7 @@ one_unseen r b _ h = tt
 
 module _ {V : Type 0} where
   -- the file that a step makes is none that its agent will draw, and none that another agent will
-  pub made_behind : (a drawn files : ℕ) (x : Request V) → IsAsked a drawn files x → OfMade (NotAhead a files) x.step
+  pub made_behind : (a : ℕ) (drawn : Drawn) (files : ℕ) (x : Request V) → IsAsked a drawn files x → OfMade (NotAhead a files) x.step
   made_behind a drawn files x h = by x.step h.2
     where
       by : (step : Step V) → MakesIn (a * 2 ^ 56) 0 files step → OfMade (NotAhead a files) step
@@ -51,13 +58,13 @@ module _ {V : Type 0} where
       by (On_locks y) k = tt
       by (On_sessions y) k = tt
 
-  pub made_elsewhere : (a b files f : ℕ) (step : Step V) → ¬ (b ≡ a) → files ≤ 2 ^ 32 → MakesIn (a * 2 ^ 56) 0 files step → OfMade (NotAhead b f) step
+  pub made_elsewhere : (a b files f : ℕ) (step : Step V) → ¬ (b ≡ a) → files ≤ 2 ^ 56 → MakesIn (a * 2 ^ 56) 0 files step → OfMade (NotAhead b f) step
   made_elsewhere a b files f (On_names (Make names id)) other small k = λ less most. omega (arith, k)
   made_elsewhere a b files f (On_names (Look names)) other small k = tt
   made_elsewhere a b files f (On_locks y) other small k = tt
   made_elsewhere a b files f (On_sessions y) other small k = tt
 
-  pub elsewhere_apart : (a b files f : ℕ) (x y : Step V) → ¬ (b ≡ a) → files ≤ 2 ^ 32 → f ≤ 2 ^ 32
+  pub elsewhere_apart : (a b files f : ℕ) (x y : Step V) → ¬ (b ≡ a) → files ≤ 2 ^ 56 → f ≤ 2 ^ 56
       → MakesIn (a * 2 ^ 56) 0 files x → MakesIn (b * 2 ^ 56) 0 f y → FilesApart x y
   elsewhere_apart a b files f (On_names (Make names id)) (On_names (Make others id2)) other small small2 h k = λ same. omega (arith, h, k)
   elsewhere_apart a b files f _ _ other small small2 h k = tt

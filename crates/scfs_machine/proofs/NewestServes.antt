@@ -10,13 +10,14 @@ use Rattle.scfs_machine.specs.Versions.{Versions}
 use Rattle.scfs_machine.specs.Tree.{Node, Tree, node_at, is_node_at}
 use Rattle.scfs_machine.specs.Walks.{OrRefusal}
 use Rattle.scfs_machine.specs.NameSteps.{Make, Look, Name_outcome, Makes, Shows, new_file, name_outcome, nodes_after, name_line}
-use Rattle.scfs_machine.specs.LockSteps.{Unlock}
+use Rattle.scfs_machine.specs.LockSteps.{Lock_outcome, Frees, Renews, lock_line, lock_outcome}
 use Rattle.scfs_machine.specs.SessionSteps.{Sight, Session_step, Session_outcome, Sees, Locks, Completes, with_version, session_outcome, session_after, session_line}
 use Rattle.scfs_machine.specs.Steps.{Step, On_names, On_locks, On_sessions, after_ok, line_of, served, served_line}
 use Rattle.scfs_machine.specs.TreeLaws.{CompletionKeeps}
 use Rattle.scfs_machine.specs.Newest.{after_commit, is_service}
 use Rattle.scfs_machine.proofs.NewestLists.{Each, eqb-refl, each-always, each-append, each-without, each-found}
 use Rattle.scfs_machine.proofs.NewestKept.{VersionOk}
+use Rattle.scfs_machine.proofs.NewestLines.{IsNoCommit}
 use Rattle.scfs_machine.proofs.NewestTree.{MakesNew, NodeOk, TreeOk, tree_same, tree_made, tree_completed}
 use Rattle.scfs_machine.proofs.NamesSteps.{make_cases, look_cases, session_cases}
 
@@ -54,7 +55,7 @@ module _ {V : Type 0} (vs : Versions V) (keeps : CompletionKeeps vs) (tree : Tre
       (λ d last free. each-append _ tree.nodes (new_file id d last ∷ []) h (k, tt))
   serve_ids P (On_names (Look names)) h k =
       look_cases tree.nodes (λ r. Each (λ n. P n.id.0) (after_ok tree.nodes (nodes_after tree.nodes) r)) (λ why. h) names (λ n. h)
-  serve_ids P (On_locks (Unlock file session)) h k = h
+  serve_ids P (On_locks x) h k = h
   serve_ids P (On_sessions x) h k =
       session_cases vs tree now (now + lease) request (λ n. P n.id.0) h
       (λ r. Each (λ n. P n.id.0) (after_ok tree (session_after vs tree request) r).nodes) (λ why. h)
@@ -71,6 +72,16 @@ module _ {V : Type 0} (vs : Versions V) (keeps : CompletionKeeps vs) (tree : Tre
   line_names (Ok (Shows n)) = refl
   line_names (Err why) = tt
 
+  no_commit : (r : OrRefusal Lock_outcome) → IsNoCommit (line_of request lock_line r)
+  no_commit (Ok (Frees count)) = tt
+  no_commit (Ok (Renews l)) = tt
+  no_commit (Err why) = tt
+
+  line_locks : (r : OrRefusal Lock_outcome) → IsOfStep request (line_of request lock_line r)
+  line_locks (Ok (Frees count)) = tt
+  line_locks (Ok (Renews l)) = tt
+  line_locks (Err why) = tt
+
   line_sessions : (r : OrRefusal (Session_outcome V)) → IsOfStep request (line_of request (session_line vs) r)
   line_sessions (Ok (Sees sight)) = refl
   line_sessions (Ok (Locks sight l)) = refl
@@ -80,7 +91,7 @@ module _ {V : Type 0} (vs : Versions V) (keeps : CompletionKeeps vs) (tree : Tre
   -- its line
   pub serve_line : (step : Step V) → IsOfStep request (line_at step)
   serve_line (On_names x) = line_names (name_outcome tree.nodes x)
-  serve_line (On_locks (Unlock file session)) = tt
+  serve_line (On_locks x) = line_locks (lock_outcome tree.locks (now + lease) request x)
   serve_line (On_sessions x) = line_sessions (session_outcome vs tree now (now + lease) request x)
 
   module _ (committed : FileId → ℕ) (h : TreeOk vs committed tree.nodes tree.versions) where
@@ -99,7 +110,8 @@ module _ {V : Type 0} (vs : Versions V) (keeps : CompletionKeeps vs) (tree : Tre
         (after_ok tree.nodes (nodes_after tree.nodes) r) tree.versions)
         (λ why. tree_same vs committed tree.nodes tree.versions (lines.Refused request why) tt h) names
         (λ n. tree_same vs committed tree.nodes tree.versions (lines.Looked request) tt h)
-    serve_tree (On_locks (Unlock file session)) new = tree_same vs committed tree.nodes tree.versions (line_at (On_locks (Unlock file session))) tt h
+    serve_tree (On_locks x) new =
+        tree_same vs committed tree.nodes tree.versions (line_at (On_locks x)) (no_commit (lock_outcome tree.locks (now + lease) request x)) h
     serve_tree (On_sessions x) new =
         session_cases vs tree now (now + lease) request (λ n. Unit {0}) (each-always _ (λ n. tt) tree.nodes)
         (λ r. TreeOk vs (λ id. after_commit id (committed id) (line_of request (session_line vs) r))

@@ -9,19 +9,24 @@ use Rattle.scfs_schedule.specs.declared.types.Refusal.TheVariants as refusals
 use Rattle.scfs_session.specs.declared.sessions.Session.{Session}
 use Rattle.scfs_session.specs.Open.{session_of, read_answer, after_write, after_truncate}
 use Rattle.scfs_base.specs.Limits.{handles_limit}
+use Rattle.scfs_base.specs.declared.naming.FileId.{FileId}
+use Rattle.scfs_lease.specs.declared.leases.Lease.{Lease}
+use Rattle.scfs_machine.specs.Lists.{if_some}
 use Rattle.scfs_machine.specs.Format.{Setup}
 use Rattle.scfs_machine.specs.Versions.{Versions}
+use Rattle.scfs_machine.specs.Lives.{is_ready}
 use Rattle.scfs_machine.specs.SessionSteps.{Session_step, Open_read, Open_write}
 use Rattle.scfs_machine.specs.Next.{Next, Goes_on, Asks, Has, Gives_up}
 use Rattle.scfs_machine.specs.Storing.{is_new_ack, with_ack, store_on, store_turn}
-use Rattle.scfs_machine.specs.Agents.{Waiting, Upload, Closed, Agent, Reaction}
+use Rattle.scfs_machine.specs.Agents.{Waiting, Upload, Closed, Agent, Reaction, silent}
+use Rattle.scfs_machine.specs.Leases.{file_of, renews, renews_all}
 use Rattle.scfs_machine.specs.Closes.{stores, with_storing, upload_hears, upload_turns, asks_puts}
 use Rattle.scfs_machine.specs.Calls.{any_names, path_names, refuse, unless_refused, close, makes, looks, opens, called, call_of}
 use Rattle.scfs_machine.specs.Reactions.{to_closed, to_upload, begun, next_begun}
 use Rattle.scfs_machine.specs.Newest.{Saw_line}
 use Rattle.scfs_machine.proofs.NewestLists.{chosen}
 use Rattle.scfs_machine.proofs.NewestDraws.{draws_nothing}
-use Rattle.scfs_machine.proofs.NewestKept.{Steady, steady_silent}
+use Rattle.scfs_machine.proofs.NewestKept.{Steady, steady_silent, steady-followed}
 
 module _ {V : Type 0} (s : Setup) (vs : Versions V) (a : ℕ) (K : Saw_line → (number : ℕ) → Type 0) where
   abbrev IsSteady : (k : ℕ) → Agent V → Reaction V → Type 0
@@ -71,6 +76,20 @@ module _ {V : Type 0} (s : Setup) (vs : Versions V) (a : ℕ) (K : Saw_line → 
   pub steady_next : (g : Agent V) (xs : List (Closed V)) → IsSteady 0 g (next_begun s vs a g xs)
   steady_next g [] = steady_silent vs a K 0 g
   steady_next g (x ∷ rest) = steady_begun g rest x x.upload
+
+  -- renewals
+
+  steady_renews : (g : Agent V) (h : ℕ) (file : Option FileId) → IsSteady 0 g (if_some file (silent g) (renews vs a g h))
+  steady_renews g h None = steady_silent vs a K 0 g
+  steady_renews g h (Some file) =
+      ((refl, le-add_right _ _, le_refl _, le-add_right _ _, ((refl, omega arith, le_refl _, tt), tt), (tt, tt)), tt, λ latest w. w)
+
+  pub steady_renews_all : (g : Agent V) (leases : List Lease) → IsSteady 0 g (renews_all vs a g leases)
+  steady_renews_all g [] = steady_silent vs a K 0 g
+  steady_renews_all g (l ∷ rest) =
+      let file : Option FileId = file_of vs g l.session g.waiting in
+      let first : Reaction V = if_some file (silent g) (renews vs a g l.session) in
+      steady-followed vs a K 0 g first (λ next. renews_all vs a next rest) (steady_renews g l.session file) (steady_renews_all first.agent rest)
 
   -- calls
 
@@ -128,5 +147,6 @@ module _ {V : Type 0} (s : Setup) (vs : Versions V) (a : ℕ) (K : Saw_line → 
   steady_called g calls.Purge = steady_silent vs a K 1 g
 
   pub steady_call : (g : Agent V) (call : Call) (w : Option (Waiting V)) → IsSteady 1 g (call_of a s g call w)
-  steady_call g call None = steady_called g call
+  steady_call g call None =
+      chosen (IsSteady 1 g) (is_ready g.life) _ _ (steady_called g call) (steady_refuse g (refusals.Starting 0))
   steady_call g call (Some waiting) = steady_refuse g refusals.Busy

@@ -14,19 +14,20 @@ use Rattle.scfs_machine.specs.Steps.{On_locks, Outcome, Of_names, Of_locks, Of_s
 use Rattle.scfs_machine.specs.NameSteps.{Name_outcome, Makes, Shows}
 use Rattle.scfs_machine.specs.Next.{Next, Goes_on, Asks, Has, Gives_up}
 use Rattle.scfs_machine.specs.Reading.{piece_in, is_awaited, with_piece, read_on, read_turn}
-use Rattle.scfs_machine.specs.LockSteps.{Unlock}
+use Rattle.scfs_machine.specs.LockSteps.{Lock_step, Unlock, Unlock_all, Renew, Lock_outcome, Frees, Renews}
 use Rattle.scfs_machine.specs.Sayings as says
-use Rattle.scfs_machine.specs.Agents.{Opening, Waiting, For_step, For_clouds, For_close, Upload, Closed, Agent, Input, Calls, Tells, Hears, Turns, Reaction, silent, saying, answered, followed, asks_step}
+use Rattle.scfs_machine.specs.Agents.{Opening, Waiting, For_step, For_clouds, For_close, Upload, Closed, Agent, Input, Calls, Tells, Hears, Turns, Crashes, Starts, Reaction, silent, saying, answered, followed, asks_step}
+use Rattle.scfs_machine.specs.Leases.{leased, unleased, renews_due}
 use Rattle.scfs_machine.specs.Calls.{call_of}
 use Rattle.scfs_machine.specs.Opens.{Found, As_empty, On_clouds, found_version, found, asks_gets, sighted, saw, gives_up, reads, tallied, open_hears, open_turns}
 use Rattle.scfs_machine.specs.Closes.{upload_hears, upload_turns}
-use Rattle.scfs_machine.specs.Told.{name_answer, is_pending, untold, told_open, told_commit, told, tells}
-use Rattle.scfs_machine.specs.Reactions.{idle, to_open, to_upload, to_work, hears, turns, responded, next_begun, reacted}
+use Rattle.scfs_machine.specs.Told.{name_answer, is_pending, untold, told_locks, told_open, told_commit, told, tells}
+use Rattle.scfs_machine.specs.Reactions.{next_life, idle, to_open, to_upload, to_work, hears, turns, starts, responded, next_begun, reacted}
 use Rattle.scfs_machine.specs.Newest.{Saw_line}
 use Rattle.scfs_machine.proofs.NewestLists.{chosen}
 use Rattle.scfs_machine.proofs.NewestDraws.{draws_nothing}
-use Rattle.scfs_machine.proofs.NewestKept.{OpeningOk, WaitOk, VersionOk, SightOk, ReplyOk, InputOk, Steady, Whole, whole-followed, steady_silent, whole_of-steady}
-use Rattle.scfs_machine.proofs.NewestSteady.{steady_upload, steady_upload_hears, steady_upload_turns, steady_next, steady_call}
+use Rattle.scfs_machine.proofs.NewestKept.{OpeningOk, WaitOk, VersionOk, SightOk, ReplyOk, InputOk, Steady, Whole, whole-followed, steady-whole, steady_silent, whole_of-steady}
+use Rattle.scfs_machine.proofs.NewestSteady.{steady_upload, steady_upload_hears, steady_upload_turns, steady_next, steady_call, steady_renews_all}
 
 module _ {V : Type 0} (vs : Versions V) where
   abbrev pub FoundOk : (number : ℕ) → Found V → Type 0
@@ -76,7 +77,7 @@ module _ {V : Type 0} (s : Setup) (vs : Versions V) (a : ℕ) (K : Saw_line → 
 
   whole_gives_up : (g : Agent V) (o : Opening V) (good : ℕ) → IsWhole 0 g (gives_up s vs a g o good)
   whole_gives_up g o good =
-      let first : Reaction V = answered g (says.Refuses (refusals.Unavailable (vs.number o.version) good)) in
+      let first : Reaction V = answered (unleased g o.session) (says.Refuses (refusals.Unavailable (vs.number o.version) good)) in
       whole-followed vs a K 0 latest g first (λ next. if o.writes then asks_step a next
       (On_locks (Unlock (vs.file o.version) o.session)) else silent next)
       (draws_nothing a 0 g, (tt, tt), tt) (steady_back first.agent o o.writes)
@@ -108,7 +109,7 @@ module _ {V : Type 0} (s : Setup) (vs : Versions V) (a : ℕ) (K : Saw_line → 
   whole_told_open : (g : Agent V) (given : Given) (request : RequestNo) (h : ℕ) (x : Session_step V) (r : OrRefusal (Session_outcome V))
       → WaitOk vs a K latest g.waiting → ReplyOk vs a K request (Of_sessions x r) → IsWhole 0 g (told_open s vs a g given request h r)
   whole_told_open g given request h x (Ok (Sees sight)) w k = whole_saw g given request h false sight k
-  whole_told_open g given request h x (Ok (Locks sight l)) w k = whole_saw g given request h true sight k
+  whole_told_open g given request h x (Ok (Locks sight l)) w k = whole_saw (leased g h l.until) given request h true sight k
   whole_told_open g given request h x (Ok (Completes session v n)) w k = (draws_nothing a 0 g, tt, w)
   whole_told_open g given request h x (Err why) w k = (draws_nothing a 0 g, (tt, tt), tt)
 
@@ -125,10 +126,19 @@ module _ {V : Type 0} (s : Setup) (vs : Versions V) (a : ℕ) (K : Saw_line → 
   whole_told_names g (Ok (Shows n)) = (draws_nothing a 0 g, (tt, tt), tt)
   whole_told_names g (Err why) = (draws_nothing a 0 g, (tt, tt), tt)
 
+  whole_told_locks : (g : Agent V) (x : Lock_step) (r : OrRefusal Lock_outcome) → WaitOk vs a K latest g.waiting → IsWhole 0 g (told_locks g x r)
+  whole_told_locks g (Unlock file h) r w = (draws_nothing a 0 g, tt, w)
+  whole_told_locks g Unlock_all (Ok (Frees count)) w = (draws_nothing a 0 g, (tt, tt), w)
+  whole_told_locks g Unlock_all (Ok (Renews l)) w = (draws_nothing a 0 g, tt, w)
+  whole_told_locks g Unlock_all (Err why) w = (draws_nothing a 0 g, tt, w)
+  whole_told_locks g (Renew file h) (Ok (Frees count)) w = (draws_nothing a 0 g, tt, w)
+  whole_told_locks g (Renew file h) (Ok (Renews l)) w = (draws_nothing a 0 g, tt, w)
+  whole_told_locks g (Renew file h) (Err why) w = (draws_nothing a 0 g, (tt, tt), w)
+
   whole_told : (g : Agent V) (given : Given) (request : RequestNo) (o : Outcome V) → WaitOk vs a K latest g.waiting → ReplyOk vs a K request o
       → IsWhole 0 g (told s vs a g given request o)
   whole_told g given request (Of_names x r) w k = whole_told_names g r
-  whole_told g given request (Of_locks x r) w k = (draws_nothing a 0 g, tt, w)
+  whole_told g given request (Of_locks x r) w k = whole_told_locks g x r w
   whole_told g given request (Of_sessions (Open_read names h) r) w k = whole_told_open g given request h (Open_read names h) r w k
   whole_told g given request (Of_sessions (Open_write names h) r) w k = whole_told_open g given request h (Open_write names h) r w k
   whole_told g given request (Of_sessions (Commit h v) r) w k = whole_told_commit g g.closed r w
@@ -160,8 +170,14 @@ module _ {V : Type 0} (s : Setup) (vs : Versions V) (a : ℕ) (K : Saw_line → 
       (whole_work g (λ next o. open_hears s vs a next o c request answer) (λ next x u. upload_hears s a next x u c request answer)
       (λ o h. whole_hears (idle g) o c request answer h) (λ h x u. steady_upload_hears s vs a K h x u c request answer) w)
   whole_responded g given Turns w k =
-      whole_one g (turns s vs a g)
-      (whole_work g (open_turns s vs a) (upload_turns s a) (λ o h. whole_turns (idle g) o h) (steady_upload_turns s vs a K) w)
+      let first : Reaction V = renews_due vs a g given.now s.header.lease in
+      let still : Steady vs a K 0 g first = steady_renews_all s vs a K g _ in
+      whole_one g (turns s vs a g given)
+      (steady-whole vs a K 0 latest g first (λ next. to_work next (open_turns s vs a) (upload_turns s a)) still
+      (whole_work first.agent (open_turns s vs a) (upload_turns s a) (λ o h. whole_turns (idle first.agent) o h) (steady_upload_turns s vs a K)
+      (still.2 latest w)))
+  whole_responded g given Crashes w k = (draws_nothing a 1 g, (tt, tt), tt)
+  whole_responded g given Starts w k = absurd k
 
   -- the whole reaction
   pub whole_reacted : (g : Agent V) (given : Given) (input : Input V) → WaitOk vs a K latest g.waiting → InputOk vs a K input
@@ -170,3 +186,11 @@ module _ {V : Type 0} (s : Setup) (vs : Versions V) (a : ℕ) (K : Saw_line → 
       let first : Reaction V = responded s vs a g given input in
       whole-followed vs a K 1 latest g first (λ next. next_begun s vs a next next.closed)
       (whole_responded g given input w k) (steady_next s vs a K first.agent first.agent.closed)
+
+  -- a start, as the agent of the next incarnation sees it
+  pub whole_started : (g : Agent V) (given : Given) → WaitOk vs a K latest g.waiting → IsWhole 0 (next_life g) (reacted s vs a g given Starts)
+  whole_started g given w =
+      let first : Reaction V = starts s vs a g in
+      whole-followed vs a K 0 latest (next_life g) first (λ next. next_begun s vs a next next.closed)
+      ((refl, le-add_right _ 1, le_refl _, le-add_right _ 0, ((refl, omega arith, le_refl _, tt), tt), (tt, tt)), (tt, tt), w)
+      (steady_next s vs a K first.agent first.agent.closed)

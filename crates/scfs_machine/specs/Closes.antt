@@ -37,7 +37,8 @@ module _ {V : Type 0} (s : Setup) (a : ℕ) where
   -- it is given up: the call that closed it is answered, and its lock is given back
   abbrev pub falls_short : Agent V → Closed V → (acks : ℕ) → Reaction V
   falls_short agent x acks =
-      followed (answered (unleased agent x.number) (says.Refuses (refusals.Short acks))) (λ next. asks_step a next (On_locks (Unlock x.session.file x.number)))
+      followed (answered (unleased agent x.number) (says.Refuses (refusals.Short acks)))
+      (λ next. asks_step a next (On_locks (Unlock x.session.file x.number)))
 
   -- what becomes of it
   abbrev pub stores : Agent V → Closed V → Upload V → Next (Unit {0}) → Reaction V

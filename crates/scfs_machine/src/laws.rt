@@ -1,6 +1,6 @@
 //! What holds of every history, whatever the format of objects is; the functions only carry the laws.
 
-ghost use Rattle.std.specs.Prelude.{◌≡◌, ◌≤◌, ◌^◌, ◌∷◌, length};
+ghost use Rattle.std.specs.Prelude.{◌≡◌, ◌<◌, ◌^◌, ◌∷◌, length};
 ghost use Rattle.scfs_machine.specs.Format.{Setup};
 ghost use Rattle.scfs_machine.specs.History.{Entry, History};
 ghost use Rattle.scfs_machine.specs.Held.{ReadsHeld};
@@ -31,11 +31,11 @@ pub fn reads_are_held()
     ensures { (s : Setup) (past : History) → Happens s past → ReadsHeld s past }
 {}
 
-/// By the lines alone, of at most 2^32 events: each open is of the version of the last completed close of its file before its
+/// By the lines alone, of fewer than 2^24 events: each open is of the version of the last completed close of its file before its
 /// request was served; version 0 is empty, and any other comes from the clouds.
 pub fn opens_are_newest()
-    ensures made { (s : Setup) (past : History) → length past ≤ 2 ^ 32 → Happens s past → OpensNewest past }
-    ensures due { (s : Setup) (past : History) → length past ≤ 2 ^ 32 → Run s past → OpensNewest past }
+    ensures made { (s : Setup) (past : History) → length past < 2 ^ 24 → Happens s past → OpensNewest past }
+    ensures due { (s : Setup) (past : History) → length past < 2 ^ 24 → Run s past → OpensNewest past }
 {}
 
 /// A close is completed only under a live lock of a session of its agent on the file, and on the version before.
