@@ -12,11 +12,11 @@ use Rattle.scfs_schedule.specs.declared.types.Line.{Line}
 use Rattle.scfs_session.specs.Contents.{bytes_from}
 use Rattle.scfs_machine.specs.Format.{Setup}
 use Rattle.scfs_machine.specs.History.{Message}
-use Rattle.scfs_machine.specs.Sayings.{Saying, Saw, Opened, Made, Described, Reads_out, Wrote, Truncated, Ended, Stored, Refuses, said_by}
+use Rattle.scfs_machine.specs.Sayings.{Saying, Saw, Opened, Made, Described, Reads_out, Wrote, Truncated, Ended, Stored, Refuses, Lapsed, Crashed, Started, Ready, said_by}
 use Rattle.scfs_machine.specs.Agents.{Request, Sent, Reaction}
 use Rattle.scfs_machine.specs.Layers.{Row}
 use Rattle.scfs_machine.specs.States.{Reply, request_line}
-use Rattle.scfs_machine.specs.Held.{Version_seen, Agent_seen, Seen, set_at, of_agent, with_bytes, with_reading, reading_of, with_get, bytes_opened, edited, seen_line}
+use Rattle.scfs_machine.specs.Held.{Version_seen, Agent_seen, Seen, set_at, of_agent, with_bytes, with_reading, with_incarnation, reading_of, with_get, bytes_opened, edited, seen_line}
 use Rattle.scfs_machine.proofs.HeldSeats.{Each, Seated}
 
 -- what is seen is this now of agent a, and of all others as it was
@@ -77,6 +77,7 @@ module _ (s : Setup) (event : Event) where
   after_saying versions y (Opened h number source size) = with_bytes h (bytes_opened s y.reading source) y
   after_saying versions y (Wrote h size) = with_bytes h (edited event (y.bytes h)) y
   after_saying versions y (Truncated h size) = with_bytes h (edited event (y.bytes h)) y
+  after_saying versions y (Started incarnation) = with_incarnation incarnation y
   after_saying versions y other = y
 
   abbrev pub after_doing : List Version_seen → List Saying → List Sent → Agent_seen → Agent_seen
@@ -106,6 +107,10 @@ module _ (s : Setup) (event : Event) (message : Option Message) (a : ℕ) where
   saying_becomes bytes x (Ended h) own = nothing_becomes a x
   saying_becomes bytes x (Stored h number) own = nothing_becomes a x
   saying_becomes bytes x (Refuses why) own = nothing_becomes a x
+  saying_becomes bytes x (Lapsed h) own = nothing_becomes a x
+  saying_becomes bytes x Crashed own = nothing_becomes a x
+  saying_becomes bytes x (Started incarnation) own = of_agent_becomes a (with_incarnation incarnation) x
+  saying_becomes bytes x Ready own = nothing_becomes a x
 
   says_become : (bytes : ℕ → List ℕ) (says : List Saying) (x : Seen) → Each (IsSaid event a bytes) says
       → Becomes a x (fold (seen_line s event message) x (map (said_by a) says)) (fold (after_saying s event x.versions) (x.agents a) says)

@@ -13,7 +13,7 @@ use Rattle.scfs_machine.specs.Lists.{if_some}
 use Rattle.scfs_machine.specs.Format.{Setup}
 use Rattle.scfs_machine.specs.History.{Message}
 use Rattle.scfs_machine.specs.Given.{Given}
-use Rattle.scfs_machine.specs.Sayings.{Saying, Saw, Opened, Made, Described, Reads_out, Wrote, Truncated, Ended, Stored, Refuses, said_by}
+use Rattle.scfs_machine.specs.Sayings.{Saying, Saw, Opened, Made, Described, Reads_out, Wrote, Truncated, Ended, Stored, Refuses, Lapsed, Crashed, Started, Ready, said_by}
 use Rattle.scfs_machine.specs.Agents.{Agent, Request, Sent, Input, Calls, Reaction}
 use Rattle.scfs_machine.specs.Reactions.{reacted}
 use Rattle.scfs_machine.specs.Layers.{Row, rows}
@@ -42,6 +42,10 @@ module _ (event : Event) (bytes : ℕ → ℕ → List ℕ) (a : ℕ) (y : Agent
   saying_shown (Ended h) same is = tt
   saying_shown (Stored h number) same is = tt
   saying_shown (Refuses why) same is = tt
+  saying_shown (Lapsed h) same is = tt
+  saying_shown Crashed same is = tt
+  saying_shown (Started incarnation) same is = tt
+  saying_shown Ready same is = tt
 
   says_shown : (says : List Saying) → y.bytes ≡ bytes a → Each (IsSaid event a y.bytes) says → Each (IsShown event bytes) (map (said_by a) says)
   says_shown [] same is = tt

@@ -15,6 +15,7 @@ use Rattle.scfs_machine.specs.Reactions.{to_closed, to_upload, to_work, hears, t
 use Rattle.scfs_machine.specs.Layers.{Row, rows}
 use Rattle.scfs_machine.specs.States.{Reply}
 use Rattle.scfs_machine.specs.Held.{Version_seen, Agent_seen, with_reading, after_answer}
+use Rattle.scfs_machine.specs.Leases.{unleased}
 use Rattle.scfs_machine.proofs.HeldSeats.{Seated}
 use Rattle.scfs_machine.proofs.HeldLines.{Does}
 use Rattle.scfs_machine.proofs.HeldDoing.{at, seat_of, silent_does, followed_silent}
@@ -34,8 +35,8 @@ module _ (s : Setup) (a : ℕ) where
   reads_closed agent o (Asks clouds) = refl
   reads_closed agent o (Has bytes) = refl
   reads_closed agent o (Gives_up good) =
-      either_closed o.writes (asks_step a (record agent { waiting = None }) (On_locks (Unlock o.version.file o.session)))
-      (silent (record agent { waiting = None })) agent.closed refl refl
+      let left : Agent Row = record (unleased agent o.session) { waiting = None } in
+      either_closed o.writes (asks_step a left (On_locks (Unlock o.version.file o.session))) (silent left) agent.closed refl refl
 
   hears_closed : (agent : Agent Row) (o : Opening Row) (c : ℕ) (request : RequestNo) (answer : CloudAnswer)
       → (open_hears s rows a agent o c request answer).agent.closed ≡ agent.closed
