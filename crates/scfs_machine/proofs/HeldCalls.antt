@@ -11,6 +11,7 @@ use Rattle.scfs_session.specs.declared.sessions.Session.{Session}
 use Rattle.scfs_session.specs.Contents.{bytes_from, resized, written}
 use Rattle.scfs_session.specs.Open.{session_of, ended, read_answer, change_refusal, unless, changed, after_write, after_truncate}
 use Rattle.scfs_base.specs.Limits.{handles_limit}
+use Rattle.scfs_machine.specs.Lives.{is_ready}
 use Rattle.scfs_machine.specs.Names.{file_id}
 use Rattle.scfs_machine.specs.Format.{Setup}
 use Rattle.scfs_machine.specs.NameSteps.{Make, Look}
@@ -24,7 +25,7 @@ use Rattle.scfs_machine.specs.Layers.{Row}
 use Rattle.scfs_machine.specs.States.{Reply}
 use Rattle.scfs_machine.specs.Held.{Version_seen, Agent_seen, set_at, with_bytes, edited}
 use Rattle.scfs_machine.proofs.HeldSessions.{IsChangedAt, held_set, held_ended, held_found}
-use Rattle.scfs_machine.proofs.HeldSeats.{Fits, Seated}
+use Rattle.scfs_machine.proofs.HeldSeats.{latest, Fits, Seated}
 use Rattle.scfs_machine.proofs.HeldSteps.{busy_once, none_asked, all_idle, any_change}
 use Rattle.scfs_machine.proofs.HeldLines.{set_here, set_there, Does}
 use Rattle.scfs_machine.proofs.HeldDoing.{at, seat_of, says_none, silent_does, refuse_does, asks_does, unless_does, either_does}
@@ -87,25 +88,27 @@ module _ (s : Setup) (a : ℕ) (versions : List Version_seen) (y : Agent_seen) (
 
   -- a step is asked for a call
   calls_does : (event : Event) (agent : Agent Row) (step : Step Row) → Sits (at agent None [])
-      → Fits s y.close (Some For_step) [] step → Doing event (calls_step a (at agent None []) step)
+      → Fits s (latest y) (Some For_step) [] step → Doing event (calls_step a (at agent None []) step)
   calls_does event agent step is fits =
-      let none = all_idle s a versions y.close y.close None (Some For_step) [] [] asked replied (λ e. e) (λ e. e) is.steps in
+      let none = all_idle s a versions (latest y) (latest y) None (Some For_step) [] [] asked replied (λ e. e) (λ e. e) is.steps in
       let few = busy_once step in
       asks_does s event a versions y asked replied (at agent (Some For_step) []) step (record {
         sessions = is.sessions;
         incarnation = is.incarnation;
+        ahead = is.ahead;
         upload = is.upload;
         waits = tt;
-        steps = any_change s a versions y.close y.close None (Some For_step) [] [] asked replied none is.steps;
+        steps = any_change s a versions (latest y) (latest y) None (Some For_step) [] [] asked replied none is.steps;
       }) (omega (arith, none, few)) fits
 
   opens_does : (event : Event) (agent : Agent Row) (step : (session : ℕ) → Session_step Row) → Sits (at agent None [])
-      → Fits s y.close (Some For_step) [] (On_sessions (step (agent.opens + 1))) → Doing event (opens a (at agent None []) step)
+      → Fits s (latest y) (Some For_step) [] (On_sessions (step (agent.opens + 1))) → Doing event (opens a (at agent None []) step)
   opens_does event agent step is fits =
       either_does s event a versions y asked replied (nat_lt (length agent.sessions + 0) handles_limit) _ _
       (calls_does event (record agent { opens = agent.opens + 1 }) (On_sessions (step (agent.opens + 1))) (record {
         sessions = is.sessions;
         incarnation = is.incarnation;
+        ahead = is.ahead;
         upload = is.upload;
         waits = is.waits;
         steps = is.steps;
@@ -124,9 +127,10 @@ module _ (s : Setup) (a : ℕ) (versions : List Version_seen) (y : Agent_seen) (
         (λ x there. held_found y.bytes agent.sessions h x there is.sessions) made))
         is.sessions;
     incarnation = is.incarnation;
+    ahead = is.ahead;
     upload = is.upload;
     waits = is.waits;
-    steps = none_asked s a versions y.close None [] asked replied is.steps;
+    steps = none_asked s a versions (latest y) None [] asked replied is.steps;
   }
 
   pub ended_does : (event : Event) (agent : Agent Row) (h : ℕ) → Sits (at agent None [])
@@ -135,9 +139,10 @@ module _ (s : Setup) (a : ℕ) (versions : List Version_seen) (y : Agent_seen) (
     seated = record {
       sessions = held_ended y.bytes agent.sessions h is.sessions;
       incarnation = is.incarnation;
+      ahead = is.ahead;
       upload = is.upload;
       waits = is.waits;
-      steps = none_asked s a versions y.close None [] asked replied is.steps;
+      steps = none_asked s a versions (latest y) None [] asked replied is.steps;
     };
     says = (tt, tt);
     sent = tt;
@@ -150,7 +155,7 @@ module _ (s : Setup) (a : ℕ) (versions : List Version_seen) (y : Agent_seen) (
       unless_does s (events.Call a (calls.Create path)) a versions y asked replied (at agent None []) (path_names s path) _ is (λ names made.
       calls_does (events.Call a (calls.Create path)) (record agent { files = agent.files + 1 })
       (On_names (Make names (file_id a agent.incarnation (agent.files + 1))))
-      (record { sessions = is.sessions; incarnation = is.incarnation; upload = is.upload; waits = is.waits; steps = is.steps }) tt)
+      (record { sessions = is.sessions; incarnation = is.incarnation; ahead = is.ahead; upload = is.upload; waits = is.waits; steps = is.steps }) tt)
   called_does agent (calls.Stat path) is kind =
       unless_does s (events.Call a (calls.Stat path)) a versions y asked replied (at agent None []) (any_names s path) _ is (λ names made.
       calls_does (events.Call a (calls.Stat path)) agent (On_names (Look names)) is tt)
@@ -199,7 +204,9 @@ module _ (s : Setup) (a : ℕ) (versions : List Version_seen) (y : Agent_seen) (
   pub call_does : (agent : Agent Row) (waiting : Option (Waiting Row)) (closed : List (Closed Row)) (call : Call) → IsNoClose call
       → Sits (at agent waiting closed)
       → Doing (events.Call a call) (call_of a s (at agent waiting closed) call waiting)
-  call_does agent None [] call kind is = called_does agent call is kind
+  call_does agent None [] call kind is =
+      either_does s (events.Call a call) a versions y asked replied (is_ready agent.life) _ _ (called_does agent call is kind)
+      (refuse_does s (events.Call a call) a versions y asked replied (at agent None []) (refusals.Starting 0) is)
   call_does agent None (x ∷ rest) call kind is = absurd is.waits
   call_does agent (Some waiting) closed call kind is =
       refuse_does s (events.Call a call) a versions y asked replied (at agent (Some waiting) closed) refusals.Busy is

@@ -6,6 +6,7 @@ use Rattle.scfs_base.specs.declared.cloud.CloudAnswer.{CloudAnswer}
 use Rattle.scfs_base.specs.declared.cloud.CloudRequest.TheVariants as requests
 use Rattle.scfs_schedule.specs.declared.types.Event.{Event}
 use Rattle.scfs_base.specs.Limits.{turns_limit}
+use Rattle.scfs_machine.specs.Leases.{unleased}
 use Rattle.scfs_machine.specs.Lists.{below, is_in, put_by_number}
 use Rattle.scfs_machine.specs.Format.{Setup, clouds_of, enough, object_at}
 use Rattle.scfs_machine.specs.Next.{Goes_on, Asks, Has, Gives_up}
@@ -18,7 +19,7 @@ use Rattle.scfs_machine.specs.Closes.{with_storing, stores, upload_hears, upload
 use Rattle.scfs_machine.specs.Layers.{Row}
 use Rattle.scfs_machine.specs.States.{Reply}
 use Rattle.scfs_machine.specs.Held.{Version_seen, Agent_seen}
-use Rattle.scfs_machine.proofs.HeldSeats.{IsRow, busy_asked, busy_replied, Seated}
+use Rattle.scfs_machine.proofs.HeldSeats.{latest, IsRow, busy_asked, busy_replied, Seated}
 use Rattle.scfs_machine.proofs.HeldSteps.{none_asked, all_idle, any_change, loose_change}
 use Rattle.scfs_machine.proofs.HeldLines.{Does}
 use Rattle.scfs_machine.proofs.HeldDoing.{at, seat_of, silent_does, asks_does, after_puts, asked_own}
@@ -55,9 +56,10 @@ module _ (s : Setup) (event : Event) (a : ℕ) (versions : List Version_seen) (y
   further agent x u later so is = record {
     sessions = is.sessions;
     incarnation = is.incarnation;
+    ahead = is.ahead;
     upload = is.upload;
-    waits = subst (λ v. IsRow s v y.close) (sym so.version) is.waits;
-    steps = loose_change s a versions y.close y.close (Some For_close) (Some For_close) ((record x { upload = Some u }) ∷ [])
+    waits = subst (λ v. IsRow s v (latest y)) (sym so.version) is.waits;
+    steps = loose_change s a versions (latest y) (latest y) (Some For_close) (Some For_close) ((record x { upload = Some u }) ∷ [])
         ((record x { upload = Some later }) ∷ []) asked replied (λ e. e) so.stored is.steps;
   }
 
@@ -71,9 +73,10 @@ module _ (s : Setup) (event : Event) (a : ℕ) (versions : List Version_seen) (y
             (sym (after_puts name body made y)) (record {
               sessions = is.sessions;
               incarnation = is.incarnation;
+              ahead = is.ahead;
               upload = is.upload;
               waits = is.waits;
-              steps = none_asked s a versions y.close agent.waiting agent.closed asked replied is.steps;
+              steps = none_asked s a versions (latest y) agent.waiting agent.closed asked replied is.steps;
             });
         says = tt;
         sent = asked_own a agent.incarnation agent.requests clouds (λ c. requests.Put name (body c));
@@ -97,7 +100,7 @@ module _ (s : Setup) (event : Event) (a : ℕ) (versions : List Version_seen) (y
   none_commits : (agent : Agent Row) (x : Closed Row) (u : Upload Row) → is_enough s u.storing ≡ false
       → Sits (uploading agent x u) → busy_asked asked + busy_replied replied ≡ 0
   none_commits agent x u short is =
-      all_idle s a versions y.close y.close (Some For_close) None ((record x { upload = Some u }) ∷ []) [] asked replied (λ e. e)
+      all_idle s a versions (latest y) (latest y) (Some For_close) None ((record x { upload = Some u }) ∷ []) [] asked replied (λ e. e)
       (λ enough. short_enough (is_enough s u.storing) short enough) is.steps
     where
       short_enough : (b : Bool) → b ≡ false → b ≡ true → ⊥
@@ -123,12 +126,13 @@ module _ (s : Setup) (event : Event) (a : ℕ) (versions : List Version_seen) (y
       → Doing (stores s a (at agent (Some For_close) []) x later (Gives_up acks))
   falls_short_does agent x u later acks short is =
       let none = none_commits agent x u short is in
-      let given_back = asks_does s event a versions y asked replied (at agent None []) (On_locks (Unlock x.session.file x.number)) (record {
+      let given_back = asks_does s event a versions y asked replied (at (unleased agent x.number) None []) (On_locks (Unlock x.session.file x.number)) (record {
         sessions = is.sessions;
         incarnation = is.incarnation;
+        ahead = is.ahead;
         upload = is.upload;
         waits = tt;
-        steps = any_change s a versions y.close y.close (Some For_close) None ((record x { upload = Some u }) ∷ []) [] asked replied none is.steps;
+        steps = any_change s a versions (latest y) (latest y) (Some For_close) None ((record x { upload = Some u }) ∷ []) [] asked replied none is.steps;
       }) (omega (arith, none)) tt in
       record { seated = given_back.seated; says = (tt, tt); sent = tt }
 

@@ -1,5 +1,5 @@
 -- A call that closes a session: what is seen is the close of a session that writes, and nothing else.
-use Rattle.std.proofs.Common.{◌≡◌, ℕ, ◌+◌, List, [], ◌∷◌, ◌++◌, length, map, refl, sym, ap, ◌∙◌, subst, ◌⊎◌, inl, inr, Bool, true, false, cond, Option, Some, None}
+use Rattle.std.proofs.Common.{◌≡◌, ℕ, ◌+◌, List, [], ◌∷◌, ◌++◌, length, map, refl, sym, ap, ◌∙◌, subst, eq-eqb, arith, ◌⊎◌, inl, inr, Bool, true, false, cond, Option, Some, None}
 use Rattle.std.specs.List.{list_any}
 use Rattle.scfs_base.specs.declared.naming.UploadNo.{UploadNo}
 use Rattle.scfs_base.specs.declared.cloud.CloudRequest.TheVariants as requests
@@ -9,6 +9,7 @@ use Rattle.scfs_schedule.specs.declared.types.Refusal.{Refusal}
 use Rattle.scfs_schedule.specs.declared.types.Refusal.TheVariants as refusals
 use Rattle.scfs_session.specs.declared.sessions.Session.{Session}
 use Rattle.scfs_session.specs.Open.{session_of, ended}
+use Rattle.scfs_machine.specs.Lives.{is_ready}
 use Rattle.scfs_machine.specs.Lists.{below}
 use Rattle.scfs_machine.specs.Names.{upload_no, upload_name}
 use Rattle.scfs_machine.specs.Format.{Setup, clouds_of, sealed, object_at}
@@ -23,8 +24,9 @@ use Rattle.scfs_machine.specs.Layers.{Row, rows}
 use Rattle.scfs_machine.specs.Reactions.{next_begun, reacted}
 use Rattle.scfs_machine.specs.States.{Reply, request_line}
 use Rattle.scfs_machine.specs.Held.{Close_seen, Version_seen, Agent_seen, is_answer, with_close}
+use Rattle.scfs_machine.proofs.NewestLists.{eqb-apart}
 use Rattle.scfs_machine.proofs.HeldSessions.{held_ended, held_found}
-use Rattle.scfs_machine.proofs.HeldSeats.{IsRow, Seated}
+use Rattle.scfs_machine.proofs.HeldSeats.{latest, IsRow, Between, Seated}
 use Rattle.scfs_machine.proofs.HeldSteps.{all_idle, any_change}
 use Rattle.scfs_machine.proofs.HeldLines.{Does}
 use Rattle.scfs_machine.proofs.HeldDoing.{at, seat_of, refuse_does, not_begun, followed_silent}
@@ -75,10 +77,12 @@ module _ (s : Setup) (event : Event) (a : ℕ) (versions : List Version_seen) (y
   writes_does agent z there is =
       let number = upload_no a agent.incarnation (agent.uploads + 1) in
       let unit = sealed s number z.contents in
-      let close : Close_seen = record { upload = upload_no a 0 (y.close.upload.count + 1); bytes = y.bytes h } in
-      let counted = ap (λ (u : UploadNo). upload_no a 0 (u.count + 1)) (sym is.upload) in
-      let named = ap (λ n. upload_no a n (agent.uploads + 1)) is.incarnation ∙ counted in
-      let none = all_idle s a versions y.close close None (Some For_close) [] [] asked replied (λ e. e) (λ e. e) is.steps in
+      let i : ℕ = y.incarnation in
+      let close : Close_seen = record { upload = upload_no a i ((latest y).upload.count + 1); bytes = y.bytes h } in
+      let same : latest (with_close a h y) ≡ close = ap (λ b. cond b close (latest y)) (eq-eqb i i refl) in
+      let counted = ap (λ (u : UploadNo). upload_no a i (u.count + 1)) (sym is.upload) in
+      let named = ap (λ n. upload_no a n (agent.uploads + 1)) (sym is.incarnation) ∙ counted in
+      let none = all_idle s a versions (latest y) close None (Some For_close) [] [] asked replied (λ e. e) (λ e. e) is.steps in
       let puts = next_asked a (record agent { uploads = agent.uploads + 1 }) (below (clouds_of s)) in
       let u : Upload Row = record {
         version = rows.closed z number unit;
@@ -92,9 +96,13 @@ module _ (s : Setup) (event : Event) (a : ℕ) (versions : List Version_seen) (y
       (record {
         sessions = held_ended y.bytes agent.sessions h is.sessions;
         incarnation = is.incarnation;
-        upload = sym counted;
-        waits = row_is s z number close.upload (y.bytes h) named (held_found y.bytes agent.sessions h z there is.sessions);
-        steps = any_change s a versions y.close close None (Some For_close) [] (x ∷ []) asked replied none is.steps;
+        ahead = λ j above.
+            ap (λ b. cond b close (y.close j)) (eqb-apart j i (λ e. omega (arith, e, above))) ∙ is.ahead j above;
+        upload = ap (λ (c : Close_seen). c.upload) same ∙ sym counted;
+        waits = subst (λ c. IsRow s u.version c) (sym same)
+            (row_is s z number close.upload (y.bytes h) named (held_found y.bytes agent.sessions h z there is.sessions));
+        steps = subst (λ c. Between s a versions c (Some For_close) (x ∷ []) asked replied) (sym same)
+            (any_change s a versions (latest y) close None (Some For_close) [] (x ∷ []) asked replied none is.steps);
       })
 
   refused_closing : (agent : Agent Row) (why : Refusal) → Sits agent
@@ -129,7 +137,12 @@ module _ (s : Setup) (event : Event) (a : ℕ) (versions : List Version_seen) (y
   pub closing : (agent : Agent Row) (waiting : Option (Waiting Row)) (closed : List (Closed Row))
       → Sits (at agent waiting closed)
       → Closing (reacted s rows a (at agent waiting closed) given (Calls (calls.Close h)))
-  closing agent None [] is = close_closing agent (session_of agent.sessions h) refl is
+  closing agent None [] is = by (is_ready agent.life)
+    where
+      by : (b : Bool) → Closing (followed (cond b (close (at agent None []) h (session_of agent.sessions h))
+          (refuse (at agent None []) (refusals.Starting 0))) (λ next. next_begun s rows a next next.closed))
+      by true = close_closing agent (session_of agent.sessions h) refl is
+      by false = refused_closing (at agent None []) (refusals.Starting 0) is refl
   closing agent None (x ∷ rest) is = absurd is.waits
   closing agent (Some waiting) closed is =
       refused_closing (at agent (Some waiting) closed) refusals.Busy is

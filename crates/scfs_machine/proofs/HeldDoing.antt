@@ -5,6 +5,8 @@ use Rattle.scfs_base.specs.declared.cloud.CloudRequest.TheVariants as requests
 use Rattle.scfs_policy.specs.declared.rank.RankFacts.{RankFacts}
 use Rattle.scfs_schedule.specs.declared.types.Event.{Event}
 use Rattle.scfs_schedule.specs.declared.types.Refusal.{Refusal}
+use Rattle.scfs_lease.specs.declared.leases.Lease.{Lease}
+use Rattle.scfs_machine.specs.Lives.{Life}
 use Rattle.scfs_machine.specs.Format.{Setup}
 use Rattle.scfs_machine.specs.Given.{Given}
 use Rattle.scfs_machine.specs.Asked.{Asked, asked_of}
@@ -16,7 +18,7 @@ use Rattle.scfs_machine.specs.Layers.{Row, rows}
 use Rattle.scfs_machine.specs.Reactions.{begun, next_begun, responded, reacted}
 use Rattle.scfs_machine.specs.States.{Reply, Seat}
 use Rattle.scfs_machine.specs.Held.{Close_seen, Version_seen, Agent_seen, with_reading, with_get}
-use Rattle.scfs_machine.proofs.HeldSeats.{Each, IsEmpty, Waits, Closes, Uploads, Fits, busy, busy_asked, busy_replied, Seated}
+use Rattle.scfs_machine.proofs.HeldSeats.{latest, Each, IsEmpty, Waits, Closes, Uploads, Fits, busy, busy_asked, busy_replied, Seated}
 use Rattle.scfs_machine.proofs.HeldSteps.{none_asked, one_asked}
 use Rattle.scfs_machine.proofs.HeldLines.{after_sent, IsOwn, after_doing, Does}
 
@@ -41,10 +43,16 @@ module _ (s : Setup) (event : Event) (a : ℕ) (versions : List Version_seen) (y
   says_none agent is = record {
     sessions = is.sessions;
     incarnation = is.incarnation;
+    ahead = is.ahead;
     upload = is.upload;
     waits = is.waits;
-    steps = none_asked s a versions y.close agent.waiting agent.closed asked replied is.steps;
+    steps = none_asked s a versions (latest y) agent.waiting agent.closed asked replied is.steps;
   }
+
+  -- an agent with another life and other leases
+  pub otherwise : (agent : Agent Row) (life : Life) (leases : List Lease) → Sits agent → Sits (record agent { life = life; leases = leases })
+  otherwise agent life leases is =
+      record { sessions = is.sessions; incarnation = is.incarnation; ahead = is.ahead; upload = is.upload; waits = is.waits; steps = is.steps }
 
   pub silent_does : (agent : Agent Row) → Sits agent → Doing (silent agent)
   silent_does agent is = record { seated = says_none agent is; says = tt; sent = tt }
@@ -55,15 +63,16 @@ module _ (s : Setup) (event : Event) (a : ℕ) (versions : List Version_seen) (y
 
   -- a step is asked
   pub asks_does : (agent : Agent Row) (step : Step Row) → Sits agent
-      → busy step + (busy_asked asked + busy_replied replied) ≤ 1 → Fits s y.close agent.waiting agent.closed step
+      → busy step + (busy_asked asked + busy_replied replied) ≤ 1 → Fits s (latest y) agent.waiting agent.closed step
       → Doing (asks_step a agent step)
   asks_does agent step is few fits = record {
     seated = record {
       sessions = is.sessions;
       incarnation = is.incarnation;
+      ahead = is.ahead;
       upload = is.upload;
       waits = is.waits;
-      steps = one_asked s a versions y.close agent.waiting agent.closed asked replied (next_request a agent step) few (refl, fits) is.steps;
+      steps = one_asked s a versions (latest y) agent.waiting agent.closed asked replied (next_request a agent step) few (refl, fits) is.steps;
     };
     says = tt;
     sent = tt;
@@ -105,9 +114,9 @@ module _ (s : Setup) (a : ℕ) (agent : Agent Row) where
   going_not_begun close rest x None is = absurd is
   going_not_begun close rest x (Some u) is = refl
 
-  closes_not_begun : (y : Agent_seen) (closed : List (Closed Row)) → Closes s y.close closed → next_begun s rows a agent closed ≡ silent agent
+  closes_not_begun : (y : Agent_seen) (closed : List (Closed Row)) → Closes s (latest y) closed → next_begun s rows a agent closed ≡ silent agent
   closes_not_begun y [] is = absurd is
-  closes_not_begun y (x ∷ []) is = going_not_begun y.close [] x x.upload is
+  closes_not_begun y (x ∷ []) is = going_not_begun (latest y) [] x x.upload is
   closes_not_begun y (x ∷ z ∷ rest) is = absurd is
 
   pub not_begun : (y : Agent_seen) (waiting : Option (Waiting Row)) (closed : List (Closed Row)) → Waits s y waiting closed

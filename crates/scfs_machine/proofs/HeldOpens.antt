@@ -12,6 +12,7 @@ use Rattle.scfs_schedule.specs.declared.types.Src.TheVariants as sources
 use Rattle.scfs_unit.specs.declared.pieces.KeptPiece.{KeptPiece}
 use Rattle.scfs_session.specs.declared.sessions.Session.{Session}
 use Rattle.scfs_base.specs.Limits.{turns_limit}
+use Rattle.scfs_machine.specs.Leases.{unleased}
 use Rattle.scfs_machine.specs.Lists.{if_some}
 use Rattle.scfs_machine.specs.Names.{upload_name}
 use Rattle.scfs_machine.specs.Format.{Setup, sealed}
@@ -28,10 +29,10 @@ use Rattle.scfs_machine.specs.Layers.{Row, rows}
 use Rattle.scfs_machine.specs.States.{Reply}
 use Rattle.scfs_machine.specs.Held.{Close_seen, Version_seen, Agent_seen, set_at, with_reading, new_reading, no_close, reading_of, bytes_opened, after_answer}
 use Rattle.scfs_machine.proofs.HeldSessions.{held_opened}
-use Rattle.scfs_machine.proofs.HeldSeats.{IsRow, IsSeen, told_of, busy_asked, busy_replied, Seated}
+use Rattle.scfs_machine.proofs.HeldSeats.{latest, IsRow, IsSeen, told_of, busy_asked, busy_replied, Seated}
 use Rattle.scfs_machine.proofs.HeldSteps.{none_asked, all_idle, any_change, loose_change}
 use Rattle.scfs_machine.proofs.HeldLines.{Does}
-use Rattle.scfs_machine.proofs.HeldDoing.{at, seat_of, silent_does, asks_does, after_gets, asked_own}
+use Rattle.scfs_machine.proofs.HeldDoing.{otherwise, at, seat_of, silent_does, asks_does, after_gets, asked_own}
 use Rattle.scfs_machine.proofs.HeldCalls.{changes_at}
 
 -- the reading of a close begins as that of its row
@@ -63,10 +64,11 @@ module _ (s : Setup) (event : Event) (a : ℕ) (versions : List Version_seen) (a
       sessions = held_opened y.bytes (set_at y.bytes h (bytes_opened s y.reading source)) agent.sessions h z
           (changes_at y.bytes h (bytes_opened s y.reading source) z.contents same) is.sessions;
       incarnation = is.incarnation;
+      ahead = is.ahead;
       upload = is.upload;
       waits = tt;
-      steps = none_asked s a versions y.close None [] asked replied
-          (any_change s a versions y.close y.close waiting None [] [] asked replied none is.steps);
+      steps = none_asked s a versions (latest y) None [] asked replied
+          (any_change s a versions (latest y) (latest y) waiting None [] [] asked replied none is.steps);
     };
     says = (tt, tt);
     sent = tt;
@@ -85,10 +87,11 @@ module _ (s : Setup) (event : Event) (a : ℕ) (versions : List Version_seen) (a
             (sym (after_gets o.reading.name (s.format.object_size s.header.f o.reading.size + 1) gets y)) (record {
               sessions = is.sessions;
               incarnation = is.incarnation;
+              ahead = is.ahead;
               upload = is.upload;
               waits = (ap (λ (r : Reading). record r { gets = r.gets ++ gets }) is.waits.0, tt);
-              steps = none_asked s a versions y.close (Some (For_clouds next)) [] asked replied
-                  (loose_change s a versions y.close y.close (Some (For_clouds o)) (Some (For_clouds next)) [] [] asked replied (λ e. e)
+              steps = none_asked s a versions (latest y) (Some (For_clouds next)) [] asked replied
+                  (loose_change s a versions (latest y) (latest y) (Some (For_clouds o)) (Some (For_clouds next)) [] [] asked replied (λ e. e)
                   (λ e. e) is.steps);
             });
         says = tt;
@@ -106,7 +109,9 @@ module _ (s : Setup) (event : Event) (a : ℕ) (versions : List Version_seen) (a
   gives_up_does : (y : Agent_seen) (agent : Agent Row) (o : Opening Row) (good : ℕ) → Sits y (at agent None [])
       → busy_asked asked + busy_replied replied ≡ 0 → Doing y (gives_up s rows a (at agent None []) o good)
   gives_up_does y agent o good is none =
-      let rest = gives_up_within y agent o good o.writes is none in record { seated = rest.seated; says = (tt, rest.says); sent = rest.sent }
+      let still = otherwise s event a versions y asked replied (at agent None []) agent.life (unleased agent o.session).leases is in
+      let rest = gives_up_within y (unleased agent o.session) o good o.writes still none in
+      record { seated = rest.seated; says = (tt, rest.says); sent = rest.sent }
 
   -- what an open came to is seen of it too
   abbrev IsRead : Agent_seen → Next (List ℕ) → Type 0
@@ -121,22 +126,24 @@ module _ (s : Setup) (event : Event) (a : ℕ) (versions : List Version_seen) (a
   reads_does y agent o Goes_on is read = silent_does s event a versions y asked replied (at agent (Some (For_clouds o)) []) is
   reads_does y agent o (Asks clouds) is read = gets_does y agent None o clouds is
   reads_does y agent o (Has bytes) is read =
-      let none = all_idle s a versions y.close y.close (Some (For_clouds o)) None [] [] asked replied (λ e. e) (λ e. e) is.steps in
+      let none = all_idle s a versions (latest y) (latest y) (Some (For_clouds o)) None [] [] asked replied (λ e. e) (λ e. e) is.steps in
       opened_does y agent None o.session (session_on rows o.version o.writes bytes) sources.Clouds (record {
         sessions = is.sessions;
         incarnation = is.incarnation;
+        ahead = is.ahead;
         upload = is.upload;
         waits = tt;
-        steps = any_change s a versions y.close y.close (Some (For_clouds o)) None [] [] asked replied none is.steps;
+        steps = any_change s a versions (latest y) (latest y) (Some (For_clouds o)) None [] [] asked replied none is.steps;
       }) none read
   reads_does y agent o (Gives_up good) is read =
-      let none = all_idle s a versions y.close y.close (Some (For_clouds o)) None [] [] asked replied (λ e. e) (λ e. e) is.steps in
+      let none = all_idle s a versions (latest y) (latest y) (Some (For_clouds o)) None [] [] asked replied (λ e. e) (λ e. e) is.steps in
       gives_up_does y agent o good (record {
         sessions = is.sessions;
         incarnation = is.incarnation;
+        ahead = is.ahead;
         upload = is.upload;
         waits = tt;
-        steps = any_change s a versions y.close y.close (Some (For_clouds o)) None [] [] asked replied none is.steps;
+        steps = any_change s a versions (latest y) (latest y) (Some (For_clouds o)) None [] [] asked replied none is.steps;
       }) none
 
   -- the opening's reading is another, and what is seen of the agent with it
@@ -146,9 +153,10 @@ module _ (s : Setup) (event : Event) (a : ℕ) (versions : List Version_seen) (a
   other_reading y agent o r reading same is = record {
     sessions = is.sessions;
     incarnation = is.incarnation;
+    ahead = is.ahead;
     upload = is.upload;
     waits = (same, tt);
-    steps = loose_change s a versions y.close y.close (Some (For_clouds o)) (Some (For_clouds (record o { reading = r }))) [] [] asked replied
+    steps = loose_change s a versions (latest y) (latest y) (Some (For_clouds o)) (Some (For_clouds (record o { reading = r }))) [] [] asked replied
         (λ e. e) (λ e. e) is.steps;
   }
 
@@ -172,7 +180,7 @@ module _ (s : Setup) (event : Event) (a : ℕ) (versions : List Version_seen) (a
       let next = other_reading y agent o (with_piece o.reading piece) reading same is in
       reads_does (record y { reading = reading }) (tallied agent c (is_some piece)) (record o { reading = with_piece o.reading piece })
       (read_on s o.reading piece)
-      (record { sessions = next.sessions; incarnation = next.incarnation; upload = next.upload; waits = next.waits; steps = next.steps })
+      (record { sessions = next.sessions; incarnation = next.incarnation; ahead = next.ahead; upload = next.upload; waits = next.waits; steps = next.steps })
       (taken_is_read (record y { reading = reading }) o.reading piece same)
   heard_within y agent o c piece reading false is same =
       reads_does (record y { reading = reading }) agent o Goes_on (other_reading y agent o o.reading reading same is) tt
@@ -216,9 +224,10 @@ module _ (s : Setup) (event : Event) (a : ℕ) (versions : List Version_seen) (a
       let does = gets_does y agent (Some For_step) o (take (s.header.f + 1) order) (record {
         sessions = is.sessions;
         incarnation = is.incarnation;
+        ahead = is.ahead;
         upload = is.upload;
         waits = (same, tt);
-        steps = any_change s a versions y.close y.close (Some For_step) (Some (For_clouds o)) [] [] asked replied none is.steps;
+        steps = any_change s a versions (latest y) (latest y) (Some For_step) (Some (For_clouds o)) [] [] asked replied none is.steps;
       }) in
       record { seated = does.seated; says = does.says; sent = does.sent }
 
@@ -228,7 +237,7 @@ module _ (s : Setup) (event : Event) (a : ℕ) (versions : List Version_seen) (a
   found_is y true file number version seen same = tt
   found_is y false file number None seen same = tt
   found_is y false file number (Some v) seen same =
-      same ∙ ap (λ found. new_reading s (if_some found (no_close 0) (λ (w : Version_seen). w.close))) seen.1 ∙ reading_is s v seen.0.close seen.2
+      same ∙ ap (λ found. new_reading s (if_some found (no_close 0 0) (λ (w : Version_seen). w.close))) seen.1 ∙ reading_is s v seen.0.close seen.2
 
   pub saw_does : (y : Agent_seen) (agent : Agent Row) (given : Given) (request : RequestNo) (h : ℕ) (writes : Bool) (sight : Sight Row)
       → Sits y (at agent (Some For_step) []) → busy_asked asked + busy_replied replied ≡ 0
@@ -237,6 +246,6 @@ module _ (s : Setup) (event : Event) (a : ℕ) (versions : List Version_seen) (a
   saw_does y agent given request h writes sight is none seen own =
       let next = with_reading (λ r. reading_of s versions sight.file sight.number) y in
       let rest = found_does next agent given h writes sight (found sight)
-      (record { sessions = is.sessions; incarnation = is.incarnation; upload = is.upload; waits = tt; steps = is.steps }) none
+      (record { sessions = is.sessions; incarnation = is.incarnation; ahead = is.ahead; upload = is.upload; waits = tt; steps = is.steps }) none
       (found_is next (sight.number == 0) sight.file sight.number sight.version seen refl) in
       record { seated = rest.seated; says = (own, rest.says); sent = rest.sent }

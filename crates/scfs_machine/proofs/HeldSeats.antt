@@ -1,5 +1,5 @@
 -- What is seen of an agent, tied to its seat: the machine's sessions, close and opening, and the steps between it and the space.
-use Rattle.std.proofs.Common.{◌≡◌, ℕ, ◌+◌, ◌≤◌, List, [], ◌∷◌, length, true, find, Option, Some, None, Result, Ok, Err}
+use Rattle.std.proofs.Common.{◌≡◌, ℕ, ◌+◌, ◌<◌, ◌≤◌, List, [], ◌∷◌, length, true, find, Option, Some, None, Result, Ok, Err}
 use Rattle.scfs_base.specs.declared.naming.FileId.{FileId}
 use Rattle.scfs_schedule.specs.declared.types.Refusal.{Refusal}
 use Rattle.scfs_machine.specs.Names.{upload_no}
@@ -11,7 +11,7 @@ use Rattle.scfs_machine.specs.Steps.{Step, On_names, On_locks, On_sessions, Outc
 use Rattle.scfs_machine.specs.Layers.{Row}
 use Rattle.scfs_machine.specs.Agents.{Waiting, For_step, For_clouds, For_close, Upload, Closed, Request}
 use Rattle.scfs_machine.specs.States.{Reply, Seat}
-use Rattle.scfs_machine.specs.Held.{Close_seen, Version_seen, Agent_seen, is_version}
+use Rattle.scfs_machine.specs.Held.{Close_seen, Version_seen, Agent_seen, no_close, is_version}
 use Rattle.scfs_machine.proofs.HeldSessions.{AreHeld}
 
 -- each item of a list
@@ -28,6 +28,10 @@ pub record IsRow (s : Setup) (v : Row) (y : Close_seen) : Type 0 where
   pub upload : v.upload ≡ y.upload
   pub root : v.root ≡ (sealed s y.upload y.bytes).root
   pub size : v.length ≡ length y.bytes
+
+-- the latest close of an agent's incarnation
+abbrev pub latest : Agent_seen → Close_seen
+latest y = y.close y.incarnation
 
 -- what lines tell of a reading: not the order of the clouds, nor the turns
 abbrev pub told_of : Reading → Reading
@@ -89,7 +93,7 @@ module _ (s : Setup) where
   Waits y None closed = IsEmpty closed
   Waits y (Some For_step) closed = IsEmpty closed
   Waits y (Some (For_clouds o)) closed = (y.reading ≡ told_of o.reading) × IsEmpty closed
-  Waits y (Some For_close) closed = Closes y.close closed
+  Waits y (Some For_close) closed = Closes (latest y) closed
 
   -- what a step that was asked rests on
   abbrev pub SessionFits : Close_seen → Option (Waiting Row) → List (Closed Row) → Session_step Row → Type 0
@@ -134,7 +138,8 @@ module _ (s : Setup) (a : ℕ) (versions : List Version_seen) (close : Close_see
 -- what is seen of agent a is so at its seat
 pub record Seated (s : Setup) (versions : List Version_seen) (a : ℕ) (y : Agent_seen) (seat : Seat Row) : Type 0 where
   pub sessions : AreHeld y.bytes seat.agent.sessions
-  pub incarnation : seat.agent.incarnation ≡ 0
-  pub upload : y.close.upload ≡ upload_no a 0 seat.agent.uploads
+  pub incarnation : y.incarnation ≡ seat.agent.incarnation
+  pub ahead : (i : ℕ) → y.incarnation < i → y.close i ≡ no_close a i
+  pub upload : (latest y).upload ≡ upload_no a y.incarnation seat.agent.uploads
   pub waits : Waits s y seat.agent.waiting seat.agent.closed
-  pub steps : Between s a versions y.close seat.agent.waiting seat.agent.closed seat.asked seat.replied
+  pub steps : Between s a versions (latest y) seat.agent.waiting seat.agent.closed seat.asked seat.replied

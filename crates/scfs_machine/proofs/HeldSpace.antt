@@ -225,6 +225,7 @@ module _ (s : Setup) (event : Event) (message : Option Message) (bytes : ℕ →
         seen = seat_set (seat_of agent (rest ++ oldest ∷ []) replied) (record {
           sessions = mine.sessions;
           incarnation = mine.incarnation;
+          ahead = mine.ahead;
           upload = mine.upload;
           waits = mine.waits;
           steps = record {

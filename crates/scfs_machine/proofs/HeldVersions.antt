@@ -12,7 +12,7 @@ use Rattle.scfs_machine.specs.Layers.{Row, rows}
 use Rattle.scfs_machine.specs.Agents.{Agent, Request}
 use Rattle.scfs_machine.specs.States.{Reply, Seat}
 use Rattle.scfs_machine.specs.Held.{Version_seen, Agent_seen, is_version}
-use Rattle.scfs_machine.proofs.HeldSeats.{IsRow, IsSeen, ResultFits, OutcomeFits, ReplyFits, Fits, busy, step_of, Seated}
+use Rattle.scfs_machine.proofs.HeldSeats.{latest, IsRow, IsSeen, ResultFits, OutcomeFits, ReplyFits, Fits, busy, step_of, Seated}
 use Rattle.scfs_machine.proofs.HeldSteps.{each_append, each_weaker, replied_append}
 use Rattle.scfs_machine.proofs.HeldDoing.{seat_of}
 
@@ -94,12 +94,13 @@ module _ (s : Setup) where
   seated_more ws more a y m is = record {
     sessions = is.sessions;
     incarnation = is.incarnation;
+    ahead = is.ahead;
     upload = is.upload;
     waits = is.waits;
     steps = record {
       asks = is.steps.asks;
-      replies = each_weaker (ReplyFits s a ws y.close m.agent.waiting m.agent.closed)
-          (ReplyFits s a (ws ++ more) y.close m.agent.waiting m.agent.closed)
+      replies = each_weaker (ReplyFits s a ws (latest y) m.agent.waiting m.agent.closed)
+          (ReplyFits s a (ws ++ more) (latest y) m.agent.waiting m.agent.closed)
           m.replied (λ r h. (h.0, h.1, outcome_more ws more r.outcome h.2)) is.steps.replies;
       alone = is.steps.alone;
     };
@@ -119,12 +120,13 @@ module _ (s : Setup) where
       record {
         sessions = is.sessions;
         incarnation = is.incarnation;
+        ahead = is.ahead;
         upload = is.upload;
         waits = is.waits;
         steps = record {
           asks = is.steps.asks.1;
-          replies = each_append (ReplyFits s a ws y.close agent.waiting agent.closed) replied (reply ∷ []) is.steps.replies
-              ((first.0, subst (Fits s y.close agent.waiting agent.closed) (sym same) first.1, fits), tt);
+          replies = each_append (ReplyFits s a ws (latest y) agent.waiting agent.closed) replied (reply ∷ []) is.steps.replies
+              ((first.0, subst (Fits s (latest y) agent.waiting agent.closed) (sym same) first.1, fits), tt);
           alone = omega (arith, sum, few, as_busy);
         };
       }

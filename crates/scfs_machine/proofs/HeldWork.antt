@@ -1,23 +1,29 @@
 -- Answers of clouds and turns leave what is seen of an agent tied to its seat.
-use Rattle.std.proofs.Common.{◌≡◌, ℕ, ◌+◌, List, [], ◌∷◌, refl, sym, ap, subst, Bool, true, false, cond, Option, Some, None, is_some}
+use Rattle.std.proofs.Common.{◌≡◌, ℕ, ◌+◌, List, [], ◌∷◌, ◌++◌, append_assoc, arith, refl, sym, ap, subst, Bool, true, false, cond, Option, Some, None, is_some}
 use Rattle.scfs_base.specs.declared.naming.RequestNo.{RequestNo}
 use Rattle.scfs_base.specs.declared.cloud.CloudAnswer.{CloudAnswer}
 use Rattle.scfs_schedule.specs.declared.types.Event.{Event}
 use Rattle.scfs_machine.specs.Format.{Setup}
 use Rattle.scfs_machine.specs.Next.{Next, Goes_on, Asks, Has, Gives_up}
 use Rattle.scfs_machine.specs.Reading.{Reading, is_awaited, piece_in, with_piece, read_on, read_turn}
-use Rattle.scfs_machine.specs.LockSteps.{Unlock}
+use Rattle.scfs_machine.specs.LockSteps.{Unlock, Renew}
 use Rattle.scfs_machine.specs.Steps.{On_locks}
-use Rattle.scfs_machine.specs.Agents.{Opening, Waiting, For_step, For_clouds, For_close, Upload, Closed, Request, Agent, Reaction, silent, asks_step}
+use Rattle.scfs_machine.specs.Agents.{Opening, Waiting, For_step, For_clouds, For_close, Upload, Closed, Request, Agent, Reaction, silent, followed, next_request, asks_step}
 use Rattle.scfs_machine.specs.Opens.{tallied, reads, takes, open_hears, open_turns}
 use Rattle.scfs_machine.specs.Closes.{upload_hears, upload_turns}
 use Rattle.scfs_machine.specs.Reactions.{to_closed, to_upload, to_work, hears, turns}
 use Rattle.scfs_machine.specs.Layers.{Row, rows}
 use Rattle.scfs_machine.specs.States.{Reply}
 use Rattle.scfs_machine.specs.Held.{Version_seen, Agent_seen, with_reading, after_answer}
-use Rattle.scfs_machine.specs.Leases.{unleased}
-use Rattle.scfs_machine.proofs.HeldSeats.{Seated}
-use Rattle.scfs_machine.proofs.HeldLines.{Does}
+use Rattle.scfs_base.specs.declared.naming.FileId.{FileId}
+use Rattle.scfs_lease.specs.declared.leases.Lease.{Lease}
+use Rattle.scfs_lease.specs.Leases.{with_renewal}
+use Rattle.scfs_machine.specs.Lists.{if_some}
+use Rattle.scfs_machine.specs.Given.{Given}
+use Rattle.scfs_machine.specs.Leases.{unleased, file_of, renews, renews_all}
+use Rattle.scfs_machine.proofs.HeldSeats.{latest, Seated}
+use Rattle.scfs_machine.proofs.HeldSteps.{one_asked}
+use Rattle.scfs_machine.proofs.HeldLines.{after_doing, Does}
 use Rattle.scfs_machine.proofs.HeldDoing.{at, seat_of, silent_does, followed_silent}
 use Rattle.scfs_machine.proofs.HeldOpens.{open_hears_does, open_turns_does}
 use Rattle.scfs_machine.proofs.HeldCloses.{uploading, upload_hears_does, upload_turns_does}
@@ -79,11 +85,11 @@ module _ (s : Setup) (event : Event) (a : ℕ) (versions : List Version_seen) (y
       → Doing (to_work (at agent waiting closed) on_open on_upload)
   work_does agent None [] works is =
       silent_does s event a versions later asked replied (at agent None [])
-      (record { sessions = is.sessions; incarnation = is.incarnation; upload = is.upload; waits = tt; steps = is.steps })
+      (record { sessions = is.sessions; incarnation = is.incarnation; ahead = is.ahead; upload = is.upload; waits = tt; steps = is.steps })
   work_does agent None (x ∷ rest) works is = absurd is.waits
   work_does agent (Some For_step) [] works is =
       silent_does s event a versions later asked replied (at agent (Some For_step) [])
-      (record { sessions = is.sessions; incarnation = is.incarnation; upload = is.upload; waits = tt; steps = is.steps })
+      (record { sessions = is.sessions; incarnation = is.incarnation; ahead = is.ahead; upload = is.upload; waits = tt; steps = is.steps })
   work_does agent (Some For_step) (x ∷ rest) works is = absurd is.waits
   work_does agent (Some (For_clouds o)) [] works is =
       let first = on_open (at agent None []) o in
@@ -94,7 +100,7 @@ module _ (s : Setup) (event : Event) (a : ℕ) (versions : List Version_seen) (y
   work_does agent (Some For_close) [] works is = absurd is.waits
   work_does agent (Some For_close) (x ∷ []) works is =
       upload_works agent x x.upload works
-      (record { sessions = is.sessions; incarnation = is.incarnation; upload = is.upload; waits = is.waits; steps = is.steps })
+      (record { sessions = is.sessions; incarnation = is.incarnation; ahead = is.ahead; upload = is.upload; waits = is.waits; steps = is.steps })
   work_does agent (Some For_close) (x ∷ z ∷ rest) works is = absurd is.waits
 
 module _ (s : Setup) (event : Event) (a : ℕ) (versions : List Version_seen) (y : Agent_seen) (asked : List (Request Row))
@@ -111,12 +117,47 @@ module _ (s : Setup) (event : Event) (a : ℕ) (versions : List Version_seen) (y
             request answer is;
       }) is
 
-  pub turns_does : (agent : Agent Row) → Seated s versions a y (seat_of agent asked replied)
-      → Does s event a versions y asked replied (turns s rows a agent)
-  turns_does agent is =
+  -- renewals, and what follows them
+  renews_then : (leases : List Lease) (agent : Agent Row) (asked : List (Request Row)) (next : Agent Row → Reaction Row)
+      → Seated s versions a y (seat_of agent asked replied)
+      → ((agent : Agent Row) (asked : List (Request Row)) → Seated s versions a y (seat_of agent asked replied)
+      → Does s event a versions y asked replied (next agent))
+      → Does s event a versions y asked replied (followed (renews_all rows a agent leases) next)
+  renews_then [] agent asked next is each = each agent asked is
+  renews_then (l ∷ rest) agent asked next is each =
+      by (file_of rows agent l.session agent.waiting) (λ agent asked is. renews_then rest agent asked next is each)
+    where
+      by : (file : Option FileId) → ((agent : Agent Row) (asked : List (Request Row)) → Seated s versions a y (seat_of agent asked replied)
+          → Does s event a versions y asked replied (followed (renews_all rows a agent rest) next))
+          → Does s event a versions y asked replied
+          (followed (followed (if_some file (silent agent) (renews rows a agent l.session)) (λ after. renews_all rows a after rest)) next)
+      by None later = later agent asked is
+      by (Some file) later =
+          let first : Reaction Row = renews rows a agent l.session file in
+          let q : Request Row = next_request a (record agent { leases = with_renewal l.session agent.leases }) (On_locks (Renew file l.session)) in
+          let few = is.steps.alone in
+          let rest_does = later first.agent (asked ++ q ∷ []) (record {
+            sessions = is.sessions;
+            incarnation = is.incarnation;
+            ahead = is.ahead;
+            upload = is.upload;
+            waits = is.waits;
+            steps = one_asked s a versions (latest y) agent.waiting agent.closed asked replied q (omega (arith, few)) (refl, tt) is.steps;
+          }) in
+          let second : Reaction Row = followed (renews_all rows a first.agent rest) next in
+          record {
+            seated = subst (λ all. Seated s versions a (after_doing s event versions second.says second.sent y) (seat_of second.agent all replied))
+                (append_assoc asked (q ∷ []) second.steps) rest_does.seated;
+            says = rest_does.says;
+            sent = rest_does.sent;
+          }
+
+  pub turns_does : (agent : Agent Row) (given : Given) → Seated s versions a y (seat_of agent asked replied)
+      → Does s event a versions y asked replied (turns s rows a agent given)
+  turns_does agent given is = renews_then _ agent asked (λ next. to_work next (open_turns s rows a) (upload_turns s a)) is (λ agent asked is.
       work_does s event a versions y y.reading asked replied (open_turns s rows a) (upload_turns s a) agent agent.waiting agent.closed (record {
         opens = λ agent o is. open_turns_does s event a versions asked replied y agent o is;
         leaves = λ agent o. reads_closed s a (at agent None []) (record o { reading = record o.reading { turns = o.reading.turns + 1 } })
             (read_turn o.reading);
         uploads = λ agent x u is. upload_turns_does s event a versions y asked replied agent x u is;
-      }) is
+      }) is)

@@ -41,6 +41,7 @@ pub mod HeldClosing
 pub mod HeldOpens
 pub mod HeldTold
 pub mod HeldWork
+pub mod HeldStays
 pub mod HeldVersions
 pub mod HeldSpace
 pub mod HeldPlaces
