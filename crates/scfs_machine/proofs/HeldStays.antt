@@ -1,5 +1,5 @@
 -- Whatever comes to an agent that is up but a crash, it stays up, in its incarnation, and its steps are of that incarnation.
-use Rattle.std.proofs.Common.{◌≡◌, ℕ, ◌+◌, List, [], ◌∷◌, true, refl, ◌∙◌, Option, Some, None, Result, Ok, Err, nat_lt, length, is_some, Bool}
+use Rattle.std.proofs.Common.{◌≡◌, ℕ, ◌+◌, List, [], ◌∷◌, true, false, refl, ◌∙◌, Option, Some, None, Result, Ok, Err, nat_lt, length, is_some, Bool}
 use Rattle.std.specs.Prelude.{if◌then◌else◌}
 use Rattle.scfs_base.specs.Limits.{handles_limit}
 use Rattle.scfs_base.specs.declared.naming.FileId.{FileId}

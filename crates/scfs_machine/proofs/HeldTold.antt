@@ -32,6 +32,7 @@ IsPlain (Opened h number source size) = ⊥
 IsPlain (Reads_out h bytes) = ⊥
 IsPlain (Wrote h size) = ⊥
 IsPlain (Truncated h size) = ⊥
+IsPlain (Started incarnation) = ⊥
 IsPlain other = Unit {0}
 
 module _ (s : Setup) (event : Event) (a : ℕ) (versions : List Version_seen) (y : Agent_seen) (asked : List (Request Row))
@@ -79,8 +80,7 @@ module _ (s : Setup) (event : Event) (a : ℕ) (versions : List Version_seen) (y
       (Lapsed h) plain is none = record { seated = answered_seated agent waiting closed is none; says = (tt, tt); sent = tt }
   answered_does agent waiting later closed
       Crashed plain is none = record { seated = answered_seated agent waiting closed is none; says = (tt, tt); sent = tt }
-  answered_does agent waiting later closed
-      (Started incarnation) plain is none = record { seated = answered_seated agent waiting closed is none; says = (tt, tt); sent = tt }
+  answered_does agent waiting later closed (Started incarnation) plain is none = absurd plain
   answered_does agent waiting later closed
       says.Ready plain is none = record { seated = answered_seated agent waiting closed is none; says = (tt, tt); sent = tt }
 

@@ -43,7 +43,9 @@ pub mod HeldTold
 pub mod HeldWork
 pub mod HeldStays
 pub mod HeldVersions
+pub mod HeldMixed
 pub mod HeldSpace
+pub mod HeldKeeping
 pub mod HeldPlaces
 pub mod HeldReads
 mod HeldPlayed
