@@ -15,15 +15,15 @@ use Rattle.scfs_quorum_write.specs.declared.progress.Progress.{Progress}
 use Rattle.scfs_quorum_write.specs.declared.progress.Progress.TheVariants as progresses
 use Rattle.scfs_base.specs.declared.naming.RequestNo.{RequestNo}
 use Rattle.scfs_base.specs.declared.cloud.CloudAnswer.{CloudAnswer}
-use Rattle.scfs_machine.specs.Lists.{is_in, below, put_by_number}
-use Rattle.scfs_machine.specs.Format.{enough}
-use Rattle.scfs_machine.specs.Asked.{is_answer_to}
-use Rattle.scfs_machine.specs.Layers.{Row}
-use Rattle.scfs_machine.specs.Next.{Next, Goes_on, Asks, Has, Gives_up}
-use Rattle.scfs_machine.specs.Storing.{is_ack, store_on}
-use Rattle.scfs_machine.specs.Agents.{Agent, Reaction}
-use Rattle.scfs_machine.specs.Agents as machine
-use Rattle.scfs_machine.specs.Closes.{stores, upload_hears, upload_turns, with_storing}
+use Rattle.scfs_model.specs.Lists.{is_in, below, put_by_number}
+use Rattle.scfs_model.specs.Format.{enough}
+use Rattle.scfs_model.specs.Asked.{is_answer_to}
+use Rattle.scfs_model.specs.Layers.{Row}
+use Rattle.scfs_model.specs.Next.{Next, Goes_on, Asks, Has, Gives_up}
+use Rattle.scfs_model.specs.Storing.{is_ack, store_on}
+use Rattle.scfs_model.specs.Agents.{Agent, Reaction}
+use Rattle.scfs_model.specs.Agents as machine
+use Rattle.scfs_model.specs.Closes.{stores, upload_hears, upload_turns, with_storing}
 use Rattle.scfs_agent.specs.State.{AgentState, setup}
 use Rattle.scfs_agent.specs.Views.{asked_of, acked_of, storing_of, upload_of, closed_of, row_of}
 use Rattle.scfs_agent.specs.Asking.{MayClose}

@@ -4,11 +4,11 @@ use Rattle.std.specs.List.{All}
 use Rattle.std.proofs.lemmas.List.{map-append, length-map}
 use Rattle.std.proofs.lemmas.List.Elements.{All-nil, All-cons, All-head, All-tail, All-same}
 use Rattle.scfs_base.specs.declared.cloud.CloudRequest.{CloudRequest}
-use Rattle.scfs_machine.specs.Asked as machine
-use Rattle.scfs_machine.specs.Layers.{Row, rows}
-use Rattle.scfs_machine.specs.Agents.{Closed, For_clouds, For_close}
-use Rattle.scfs_machine.specs.Opens.{asks_gets}
-use Rattle.scfs_machine.specs.Closes.{asks_puts}
+use Rattle.scfs_model.specs.Asked as machine
+use Rattle.scfs_model.specs.Layers.{Row, rows}
+use Rattle.scfs_model.specs.Agents.{Closed, For_clouds, For_close}
+use Rattle.scfs_model.specs.Opens.{asks_gets}
+use Rattle.scfs_model.specs.Closes.{asks_puts}
 use Rattle.scfs_agent.specs.State.{AgentState, setup}
 use Rattle.scfs_agent.specs.Views.{asked_of, opening_of, upload_of, closed_of}
 use Rattle.scfs_agent.specs.Outputs.{outputs_of, sent_outputs, sent_to, get_body, put_body}

@@ -11,12 +11,12 @@ use Rattle.scfs_schedule.specs.declared.types.Refusal.{Refusal}
 use Rattle.scfs_schedule.specs.declared.types.Refusal.TheVariants as refusals
 use Rattle.scfs_session.specs.declared.sessions.Session.{Session}
 use Rattle.scfs_session.specs.Open.{OpenSessions, session_of, ended, change_answer, sessions_after}
-use Rattle.scfs_machine.specs.Layers.{Row}
-use Rattle.scfs_machine.specs.Sayings.{Saying}
-use Rattle.scfs_machine.specs.Format.{Setup}
-use Rattle.scfs_machine.specs.SessionSteps.{Open_read, Open_write}
-use Rattle.scfs_machine.specs.Agents.{Agent, Waiting, Reaction, saying}
-use Rattle.scfs_machine.specs.Calls.{call_of, called, refuse, unless_refused, any_names, path_names, makes, looks, opens, with_room, with_session, close}
+use Rattle.scfs_model.specs.Layers.{Row}
+use Rattle.scfs_model.specs.Sayings.{Saying}
+use Rattle.scfs_model.specs.Format.{Setup}
+use Rattle.scfs_model.specs.SessionSteps.{Open_read, Open_write}
+use Rattle.scfs_model.specs.Agents.{Agent, Waiting, Reaction, saying}
+use Rattle.scfs_model.specs.Calls.{call_of, called, refuse, unless_refused, any_names, path_names, makes, looks, opens, with_room, with_session, close}
 use Rattle.scfs_agent.specs.State.{AgentState, setup}
 use Rattle.scfs_agent.specs.Outputs.{outputs_of}
 use Rattle.scfs_agent.specs.Settled.{settled, HasBegun}

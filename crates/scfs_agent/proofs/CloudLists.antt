@@ -9,7 +9,7 @@ use Rattle.std.proofs.lemmas.List.Elements.{filter-append, All-nil, All-cons}
 use Rattle.std.proofs.lemmas.List.FromFn.{length-range_with_len, get_or-range_with_len}
 use Rattle.scfs_erasure.specs.Rows.{row_length}
 use Rattle.scfs_unit.specs.Checking.{object_size}
-use Rattle.scfs_machine.specs.Lists.{below}
+use Rattle.scfs_model.specs.Lists.{below}
 
 filter_by : (b : Bool) (x : ℕ) (kept xs : List ℕ) → length kept ≤ length xs → length (cond b (x ∷ kept) kept) ≤ suc (length xs)
 filter_by true x kept xs h = omega arith

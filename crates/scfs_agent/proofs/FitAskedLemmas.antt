@@ -11,23 +11,23 @@ use Rattle.scfs_session.specs.declared.sessions.Session.{Session}
 use Rattle.scfs_session.specs.Open.{session_of, read_answer, after_write, after_truncate}
 use Rattle.scfs_anchor.specs.Tree.{Each}
 use Rattle.scfs_anchor.specs.Holding.{IsAskable}
-use Rattle.scfs_machine.specs.Names.{request_no}
-use Rattle.scfs_machine.specs.Format.{Setup}
-use Rattle.scfs_machine.specs.UnitFormat.{under}
-use Rattle.scfs_machine.specs.Given.{Given}
-use Rattle.scfs_machine.specs.Layers.{Row, rows}
-use Rattle.scfs_machine.specs.Walks.{OrRefusal}
-use Rattle.scfs_machine.specs.SessionSteps.{Session_step, Open_read, Open_write, Commit, Session_outcome, Sees, Locks, Completes, Sight}
-use Rattle.scfs_machine.specs.Steps.{Step, On_sessions, Outcome, Of_names, Of_locks, Of_sessions}
-use Rattle.scfs_machine.specs.Next.{Next, Goes_on, Asks, Has, Gives_up}
-use Rattle.scfs_machine.specs.Reading.{read_on, read_turn, with_piece, is_awaited, piece_in}
-use Rattle.scfs_machine.specs.Storing.{is_new_ack, with_ack, store_on, store_turn}
-use Rattle.scfs_machine.specs.Agents.{Opening, Waiting, For_step, For_clouds, For_close, Closed, Upload, Agent, Input, Calls, Tells, Hears, Turns, Reaction, followed, asks_step}
-use Rattle.scfs_machine.specs.Calls.{any_names, path_names, some_names, unless_refused, close, makes, looks, opens, called, call_of}
-use Rattle.scfs_machine.specs.Closes.{stores, with_storing, upload_hears, upload_turns}
-use Rattle.scfs_machine.specs.Opens.{Found, As_empty, On_clouds, found, sighted, reads, open_hears, open_turns, tallied}
-use Rattle.scfs_machine.specs.Told.{is_pending, untold, told_open, told_closed, told_commit, told}
-use Rattle.scfs_machine.specs.Reactions.{idle, to_open, to_closed, to_upload, to_work, responded, begun, next_begun, reacted}
+use Rattle.scfs_model.specs.Names.{request_no}
+use Rattle.scfs_model.specs.Format.{Setup}
+use Rattle.scfs_model.specs.UnitFormat.{under}
+use Rattle.scfs_model.specs.Given.{Given}
+use Rattle.scfs_model.specs.Layers.{Row, rows}
+use Rattle.scfs_model.specs.Walks.{OrRefusal}
+use Rattle.scfs_model.specs.SessionSteps.{Session_step, Open_read, Open_write, Commit, Session_outcome, Sees, Locks, Completes, Sight}
+use Rattle.scfs_model.specs.Steps.{Step, On_sessions, Outcome, Of_names, Of_locks, Of_sessions}
+use Rattle.scfs_model.specs.Next.{Next, Goes_on, Asks, Has, Gives_up}
+use Rattle.scfs_model.specs.Reading.{read_on, read_turn, with_piece, is_awaited, piece_in}
+use Rattle.scfs_model.specs.Storing.{is_new_ack, with_ack, store_on, store_turn}
+use Rattle.scfs_model.specs.Agents.{Opening, Waiting, For_step, For_clouds, For_close, Closed, Upload, Agent, Input, Calls, Tells, Hears, Turns, Reaction, followed, asks_step}
+use Rattle.scfs_model.specs.Calls.{any_names, path_names, some_names, unless_refused, close, makes, looks, opens, called, call_of}
+use Rattle.scfs_model.specs.Closes.{stores, with_storing, upload_hears, upload_turns}
+use Rattle.scfs_model.specs.Opens.{Found, As_empty, On_clouds, found, sighted, reads, open_hears, open_turns, tallied}
+use Rattle.scfs_model.specs.Told.{is_pending, untold, told_open, told_closed, told_commit, told}
+use Rattle.scfs_model.specs.Reactions.{idle, to_open, to_closed, to_upload, to_work, responded, begun, next_begun, reacted}
 use Rattle.scfs_agent.specs.Asking.{CanBeAsked, MayUpload, MayAsk}
 
 -- what holds of both holds of the chosen one

@@ -12,23 +12,23 @@ use Rattle.scfs_quorum_read.specs.Reading.{is_among}
 use Rattle.scfs_quorum_read.specs.Tracking.{Tracker, heard}
 use Rattle.scfs_quorum_read.specs.declared.steps.ReadStep.{ReadStep}
 use Rattle.scfs_quorum_write.specs.Acks.{Acks, no_acks}
-use Rattle.scfs_machine.specs.Lists.{below}
-use Rattle.scfs_machine.specs.Names.{upload_no, upload_name}
-use Rattle.scfs_machine.specs.Format.{sealed}
-use Rattle.scfs_machine.specs.Asked as requests
-use Rattle.scfs_machine.specs.Layers.{Row, rows}
-use Rattle.scfs_machine.specs.Reading.{piece_in}
-use Rattle.scfs_machine.specs.Agents.{For_close, Reaction, silent}
-use Rattle.scfs_machine.specs.Opens.{open_hears, reads, takes, tallied}
-use Rattle.scfs_machine.specs.Closes.{asks_puts, begins}
-use Rattle.scfs_machine.specs.Given.{Given}
-use Rattle.scfs_machine.specs.NameSteps.{Name_step, Name_outcome}
-use Rattle.scfs_machine.specs.LockSteps.{Lock_step, Lock_outcome}
-use Rattle.scfs_machine.specs.SessionSteps.{Session_step, Session_outcome}
-use Rattle.scfs_machine.specs.Steps.{Step, On_names, On_locks, On_sessions, Outcome, Of_names, Of_locks, Of_sessions}
-use Rattle.scfs_machine.specs.Walks.{OrRefusal}
-use Rattle.scfs_machine.specs.Told.{tells, told, untold, is_pending}
-use Rattle.scfs_machine.specs.Next.{Goes_on}
+use Rattle.scfs_model.specs.Lists.{below}
+use Rattle.scfs_model.specs.Names.{upload_no, upload_name}
+use Rattle.scfs_model.specs.Format.{sealed}
+use Rattle.scfs_model.specs.Asked as requests
+use Rattle.scfs_model.specs.Layers.{Row, rows}
+use Rattle.scfs_model.specs.Reading.{piece_in}
+use Rattle.scfs_model.specs.Agents.{For_close, Reaction, silent}
+use Rattle.scfs_model.specs.Opens.{open_hears, reads, takes, tallied}
+use Rattle.scfs_model.specs.Closes.{asks_puts, begins}
+use Rattle.scfs_model.specs.Given.{Given}
+use Rattle.scfs_model.specs.NameSteps.{Name_step, Name_outcome}
+use Rattle.scfs_model.specs.LockSteps.{Lock_step, Lock_outcome}
+use Rattle.scfs_model.specs.SessionSteps.{Session_step, Session_outcome}
+use Rattle.scfs_model.specs.Steps.{Step, On_names, On_locks, On_sessions, Outcome, Of_names, Of_locks, Of_sessions}
+use Rattle.scfs_model.specs.Walks.{OrRefusal}
+use Rattle.scfs_model.specs.Told.{tells, told, untold, is_pending}
+use Rattle.scfs_model.specs.Next.{Goes_on}
 use Rattle.scfs_agent.specs.State.{AgentState, setup}
 use Rattle.scfs_agent.specs.Views.{asked_of, opening_of, reading_of, next_of, row_of, left_session, acked_of, upload_of, closed_of}
 use Rattle.scfs_agent.specs.Telling.{outcome_step}

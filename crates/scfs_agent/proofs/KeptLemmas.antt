@@ -14,11 +14,11 @@ use Rattle.scfs_policy.specs.declared.rank.RankFacts.{RankFacts}
 use Rattle.scfs_schedule.specs.declared.types.Refusal.{Refusal}
 use Rattle.scfs_session.specs.declared.sessions.Session.{Session}
 use Rattle.scfs_session.specs.Open.{OpenSessions, session_of, opened, ended, change_refusal, unless, changed, sessions_after}
-use Rattle.scfs_machine.specs.Opens.{one_more}
+use Rattle.scfs_model.specs.Opens.{one_more}
 use Rattle.scfs_schedule.specs.declared.types.Header.{Header}
 use Rattle.scfs_anchor.specs.Tree.{Each}
-use Rattle.scfs_machine.specs.Layers.{Row}
-use Rattle.scfs_machine.specs.Agents.{Closed}
+use Rattle.scfs_model.specs.Layers.{Row}
+use Rattle.scfs_model.specs.Agents.{Closed}
 use Rattle.scfs_agent.specs.Asking.{MayUpload}
 use Rattle.scfs_agent.specs.Settled.{OneBegun}
 use Rattle.scfs_agent.specs.Views.{step_of, request_of, waiting_of, closed_in}

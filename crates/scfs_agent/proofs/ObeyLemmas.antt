@@ -5,14 +5,14 @@ use Rattle.scfs_base.specs.declared.cloud.CloudAnswer.{CloudAnswer}
 use Rattle.scfs_policy.specs.declared.rank.RankFacts.{RankFacts}
 use Rattle.scfs_schedule.specs.declared.types.Call.{Call}
 use Rattle.scfs_tuples.specs.declared.types.Reply.{Reply}
-use Rattle.scfs_machine.specs.Layers.{Row, rows}
-use Rattle.scfs_machine.specs.Runs.{Answers}
-use Rattle.scfs_machine.specs.Steps.{Outcome}
-use Rattle.scfs_machine.specs.Agents as machine
-use Rattle.scfs_machine.specs.Agents.{Calls, Tells, Hears, Turns, Reaction}
-use Rattle.scfs_machine.specs.Calls.{call_of}
-use Rattle.scfs_machine.specs.Told.{tells}
-use Rattle.scfs_machine.specs.Reactions.{hears, turns}
+use Rattle.scfs_model.specs.Layers.{Row, rows}
+use Rattle.scfs_model.specs.Runs.{Answers}
+use Rattle.scfs_model.specs.Steps.{Outcome}
+use Rattle.scfs_model.specs.Agents as machine
+use Rattle.scfs_model.specs.Agents.{Calls, Tells, Hears, Turns, Reaction}
+use Rattle.scfs_model.specs.Calls.{call_of}
+use Rattle.scfs_model.specs.Told.{tells}
+use Rattle.scfs_model.specs.Reactions.{hears, turns}
 use Rattle.scfs_agent.specs.State.{AgentState, setup, given_now}
 use Rattle.scfs_agent.specs.Asking.{MayAsk}
 use Rattle.scfs_agent.specs.Outputs.{outputs_of}

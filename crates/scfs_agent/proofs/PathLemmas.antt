@@ -6,7 +6,7 @@ use Rattle.std.specs.Str.{bytes_eq, is_utf8}
 use Rattle.scfs_base.specs.Pieces.{pieces}
 use Rattle.scfs_anchor.specs.Names as anchor
 use Rattle.scfs_anchor.specs.Names.{is_name}
-use Rattle.scfs_machine.specs.Paths as machine
+use Rattle.scfs_model.specs.Paths as machine
 
 name_same : (name : List ℕ) → is_name name ≡ machine.is_name is_utf8 name
 unfolding is_name

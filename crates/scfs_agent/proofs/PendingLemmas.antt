@@ -4,12 +4,12 @@ use Rattle.std.specs.Prelude.{◌||◌, if◌then◌else◌, find, is_some, remo
 use Rattle.std.specs.List.{All, list_any}
 use Rattle.std.proofs.lemmas.List.Elements.{All-head, All-tail, All-append, All-take, All-drop}
 use Rattle.scfs_base.specs.declared.naming.RequestNo.{RequestNo}
-use Rattle.scfs_machine.specs.Lists.{without_first}
-use Rattle.scfs_machine.specs.Layers.{Row, rows}
-use Rattle.scfs_machine.specs.Given.{Given}
-use Rattle.scfs_machine.specs.Steps.{Step, Outcome}
-use Rattle.scfs_machine.specs.Agents.{Request, Reaction, silent}
-use Rattle.scfs_machine.specs.Told.{tells, told, untold, is_pending}
+use Rattle.scfs_model.specs.Lists.{without_first}
+use Rattle.scfs_model.specs.Layers.{Row, rows}
+use Rattle.scfs_model.specs.Given.{Given}
+use Rattle.scfs_model.specs.Steps.{Step, Outcome}
+use Rattle.scfs_model.specs.Agents.{Request, Reaction, silent}
+use Rattle.scfs_model.specs.Told.{tells, told, untold, is_pending}
 use Rattle.scfs_agent.specs.State.{AgentState, setup}
 use Rattle.scfs_agent.specs.Outputs.{outputs_of}
 use Rattle.scfs_agent.specs.Views.{request_of, step_of, waiting_of, closed_in}

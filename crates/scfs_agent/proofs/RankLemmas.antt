@@ -16,17 +16,17 @@ use Rattle.scfs_anchor.specs.StepPlans.{session_plan}
 use Rattle.scfs_anchor.specs.StepReplies.{IsDone, IsRefusal, IsReplyTo, sight_said}
 use Rattle.scfs_anchor.specs.declared.seen.Sight.{Sight}
 use Rattle.scfs_anchor.proofs.ReplyLemmas.{sight_read}
-use Rattle.scfs_machine.specs.Format.{Setup}
-use Rattle.scfs_machine.specs.Layers.{Row, rows}
-use Rattle.scfs_machine.specs.Given.{Given}
-use Rattle.scfs_machine.specs.Walks.{OrRefusal}
-use Rattle.scfs_machine.specs.Runs.{Answers}
-use Rattle.scfs_machine.specs.SessionSteps as machine
-use Rattle.scfs_machine.specs.SessionSteps.{Session_step, Open_read, Open_write, Commit, Session_outcome, Sees, Locks, Completes}
-use Rattle.scfs_machine.specs.Steps.{Step, Outcome, Of_names, Of_locks, Of_sessions}
-use Rattle.scfs_machine.specs.Agents.{Agent, Closed, Request, silent}
-use Rattle.scfs_machine.specs.Opens.{As_empty, found, found_version, saw, sighted}
-use Rattle.scfs_machine.specs.Told.{tells, told, told_commit, untold}
+use Rattle.scfs_model.specs.Format.{Setup}
+use Rattle.scfs_model.specs.Layers.{Row, rows}
+use Rattle.scfs_model.specs.Given.{Given}
+use Rattle.scfs_model.specs.Walks.{OrRefusal}
+use Rattle.scfs_model.specs.Runs.{Answers}
+use Rattle.scfs_model.specs.SessionSteps as machine
+use Rattle.scfs_model.specs.SessionSteps.{Session_step, Open_read, Open_write, Commit, Session_outcome, Sees, Locks, Completes}
+use Rattle.scfs_model.specs.Steps.{Step, Outcome, Of_names, Of_locks, Of_sessions}
+use Rattle.scfs_model.specs.Agents.{Agent, Closed, Request, silent}
+use Rattle.scfs_model.specs.Opens.{As_empty, found, found_version, saw, sighted}
+use Rattle.scfs_model.specs.Told.{tells, told, told_commit, untold}
 use Rattle.scfs_agent.specs.Views.{request_of}
 use Rattle.scfs_agent.specs.Views as views
 use Rattle.scfs_agent.specs.Telling.{IsIts, outcome_step, pending_step, first_place, is_numbered, is_open, has_version, shows_version, reads_version}

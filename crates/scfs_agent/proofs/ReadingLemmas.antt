@@ -22,13 +22,13 @@ use Rattle.scfs_quorum_read.specs.Reading.{of_length, good_piece, is_among, firs
 use Rattle.scfs_quorum_read.specs.Tracking.{Tracker, Heard, IsOrder, begun, heard, piece_heard, kept_step}
 use Rattle.scfs_quorum_read.specs.declared.steps.ReadStep.{ReadStep}
 use Rattle.scfs_quorum_read.specs.declared.steps.ReadStep.TheVariants as read_steps
-use Rattle.scfs_machine.specs.UnitFormat.{accepted}
-use Rattle.scfs_machine.specs.Asked as requests
-use Rattle.scfs_machine.specs.Layers.{Row, rows}
-use Rattle.scfs_machine.specs.Next.{Goes_on, Asks, Has}
-use Rattle.scfs_machine.specs.Reading.{if_size, piece_in, was_asked, next_cloud}
-use Rattle.scfs_machine.specs.Agents.{Agent, Opening, Reaction}
-use Rattle.scfs_machine.specs.Opens.{reads, takes, tallied, asks_gets}
+use Rattle.scfs_model.specs.UnitFormat.{accepted}
+use Rattle.scfs_model.specs.Asked as requests
+use Rattle.scfs_model.specs.Layers.{Row, rows}
+use Rattle.scfs_model.specs.Next.{Goes_on, Asks, Has}
+use Rattle.scfs_model.specs.Reading.{if_size, piece_in, was_asked, next_cloud}
+use Rattle.scfs_model.specs.Agents.{Agent, Opening, Reaction}
+use Rattle.scfs_model.specs.Opens.{reads, takes, tallied, asks_gets}
 use Rattle.scfs_agent.specs.State.{AgentState, setup}
 use Rattle.scfs_agent.specs.Views.{asked_of, reading_of, opening_of, next_of, turns_left}
 use Rattle.scfs_agent.specs.Keeping.{IsRow, IsFetch, IsFetchAsking, HasRead, AreOf, WereAsked}

@@ -5,18 +5,18 @@ use Rattle.std.proofs.lemmas.List.{append-nil}
 use Rattle.scfs_base.specs.declared.naming.RequestNo.{RequestNo}
 use Rattle.scfs_base.specs.declared.cloud.CloudAnswer.{CloudAnswer}
 use Rattle.scfs_policy.specs.declared.rank.RankFacts.{RankFacts}
-use Rattle.scfs_machine.specs.Format.{Setup}
-use Rattle.scfs_machine.specs.Layers.{Row, rows}
-use Rattle.scfs_machine.specs.Given.{Given}
-use Rattle.scfs_machine.specs.Next.{Next, Goes_on, Asks, Has, Gives_up}
-use Rattle.scfs_machine.specs.Reading.{piece_in, is_awaited, with_piece, read_on, read_turn}
-use Rattle.scfs_machine.specs.Storing.{is_new_ack, with_ack, store_on, store_turn}
-use Rattle.scfs_machine.specs.SessionSteps.{Sight}
-use Rattle.scfs_machine.specs.Sayings.{Saying}
-use Rattle.scfs_machine.specs.Agents.{Agent, Opening, Waiting, For_step, For_clouds, For_close, Closed, Upload, Request, Sent, Reaction, silent, followed}
-use Rattle.scfs_machine.specs.Opens.{Found, As_empty, On_clouds, reads, takes, open_hears, open_turns, gives_up, tallied, sighted}
-use Rattle.scfs_machine.specs.Closes.{stores, upload_hears, upload_turns, with_storing}
-use Rattle.scfs_machine.specs.Reactions.{idle, to_open, to_upload, to_work, next_begun, begun}
+use Rattle.scfs_model.specs.Format.{Setup}
+use Rattle.scfs_model.specs.Layers.{Row, rows}
+use Rattle.scfs_model.specs.Given.{Given}
+use Rattle.scfs_model.specs.Next.{Next, Goes_on, Asks, Has, Gives_up}
+use Rattle.scfs_model.specs.Reading.{piece_in, is_awaited, with_piece, read_on, read_turn}
+use Rattle.scfs_model.specs.Storing.{is_new_ack, with_ack, store_on, store_turn}
+use Rattle.scfs_model.specs.SessionSteps.{Sight}
+use Rattle.scfs_model.specs.Sayings.{Saying}
+use Rattle.scfs_model.specs.Agents.{Agent, Opening, Waiting, For_step, For_clouds, For_close, Closed, Upload, Request, Sent, Reaction, silent, followed}
+use Rattle.scfs_model.specs.Opens.{Found, As_empty, On_clouds, reads, takes, open_hears, open_turns, gives_up, tallied, sighted}
+use Rattle.scfs_model.specs.Closes.{stores, upload_hears, upload_turns, with_storing}
+use Rattle.scfs_model.specs.Reactions.{idle, to_open, to_upload, to_work, next_begun, begun}
 use Rattle.scfs_agent.specs.Settled.{settled, HasBegun}
 
 same_reaction : (agent agent' : Agent Row) (says says' : List Saying) (steps steps' : List (Request Row)) (sent sent' : List Sent) (ranked ranked' : List RankFacts)

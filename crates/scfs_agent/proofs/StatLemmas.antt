@@ -8,7 +8,7 @@ use Rattle.scfs_schedule.specs.declared.types.Line.TheVariants as lines
 use Rattle.scfs_tuples.specs.declared.types.Field.{Field}
 use Rattle.scfs_anchor.specs.Fields.{number_at, number_in}
 use Rattle.scfs_anchor.specs.Tree.{kind_number}
-use Rattle.scfs_machine.specs.Tree.{Node}
+use Rattle.scfs_model.specs.Tree.{Node}
 use Rattle.scfs_agent.specs.Telling.{kind_of, stat_line}
 use Rattle.scfs_anchor.specs.StepReplies.{seen_fields}
 

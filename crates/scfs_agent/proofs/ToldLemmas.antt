@@ -19,19 +19,19 @@ use Rattle.scfs_anchor.specs.StepPlans.{name_plan, session_plan}
 use Rattle.scfs_anchor.specs.StepReplies.{IsDone, IsRefusal, HasShown, sight_said, IsNameReply, IsSessionReply, FitsNames, FitsSight, FitsVersion, FitsSessions}
 use Rattle.scfs_anchor.specs.declared.seen.Sight.{Sight}
 use Rattle.scfs_anchor.proofs.ReplyLemmas.{sight_read}
-use Rattle.scfs_machine.specs.Format.{Setup}
-use Rattle.scfs_machine.specs.Layers.{Row, rows}
-use Rattle.scfs_machine.specs.Tree.{Node}
-use Rattle.scfs_machine.specs.Walks.{OrRefusal}
-use Rattle.scfs_machine.specs.Given.{Given}
-use Rattle.scfs_machine.specs.NameSteps.{Look, Name_outcome, Makes, Shows}
-use Rattle.scfs_machine.specs.SessionSteps as machine
-use Rattle.scfs_machine.specs.SessionSteps.{Session_step, Open_read, Open_write, Commit, Session_outcome, Sees, Locks, Completes}
-use Rattle.scfs_machine.specs.Sayings.{said_by}
-use Rattle.scfs_machine.specs.Sayings as says
-use Rattle.scfs_machine.specs.Agents.{Agent, Reaction}
-use Rattle.scfs_machine.specs.Opens.{Found, As_empty, On_clouds, found, saw, sighted}
-use Rattle.scfs_machine.specs.Told.{told_open, name_answer}
+use Rattle.scfs_model.specs.Format.{Setup}
+use Rattle.scfs_model.specs.Layers.{Row, rows}
+use Rattle.scfs_model.specs.Tree.{Node}
+use Rattle.scfs_model.specs.Walks.{OrRefusal}
+use Rattle.scfs_model.specs.Given.{Given}
+use Rattle.scfs_model.specs.NameSteps.{Look, Name_outcome, Makes, Shows}
+use Rattle.scfs_model.specs.SessionSteps as machine
+use Rattle.scfs_model.specs.SessionSteps.{Session_step, Open_read, Open_write, Commit, Session_outcome, Sees, Locks, Completes}
+use Rattle.scfs_model.specs.Sayings.{said_by}
+use Rattle.scfs_model.specs.Sayings as says
+use Rattle.scfs_model.specs.Agents.{Agent, Reaction}
+use Rattle.scfs_model.specs.Opens.{Found, As_empty, On_clouds, found, saw, sighted}
+use Rattle.scfs_model.specs.Told.{told_open, name_answer}
 use Rattle.scfs_agent.specs.Views.{row_of}
 use Rattle.scfs_agent.specs.Keeping.{IsRow}
 use Rattle.scfs_agent.specs.Telling.{FitsSeen, sight_meant, open_step, stat_line}

@@ -7,11 +7,11 @@ use Rattle.std.proofs.lemmas.Bool.Decides.{nat_tests}
 use Rattle.scfs_quorum_read.specs.Reading.{is_among}
 use Rattle.scfs_quorum_read.specs.Tracking.{Tracker, turn_taken, turn_comes_to, ends_at}
 use Rattle.scfs_quorum_read.specs.declared.steps.TurnStep.TheVariants as turn_steps
-use Rattle.scfs_machine.specs.Asked as requests
-use Rattle.scfs_machine.specs.Layers.{Row, rows}
-use Rattle.scfs_machine.specs.Agents.{Agent, Opening}
-use Rattle.scfs_machine.specs.Opens.{reads, asks_gets, gives_up, open_turns}
-use Rattle.scfs_machine.specs.Next.{Next, Asks, Gives_up}
+use Rattle.scfs_model.specs.Asked as requests
+use Rattle.scfs_model.specs.Layers.{Row, rows}
+use Rattle.scfs_model.specs.Agents.{Agent, Opening}
+use Rattle.scfs_model.specs.Opens.{reads, asks_gets, gives_up, open_turns}
+use Rattle.scfs_model.specs.Next.{Next, Asks, Gives_up}
 use Rattle.scfs_agent.specs.State.{AgentState, setup}
 use Rattle.scfs_agent.specs.Views.{asked_of, opening_of, reading_of, turns_left}
 use Rattle.scfs_agent.specs.Keeping.{IsFetch, IsFetchAsking}

@@ -1,9 +1,9 @@
 -- An agent whose upload goes on.
 use Rattle.std.proofs.Common.{◌≡◌, List, [], ◌∷◌, Some, sym, ap, ◌∙◌}
-use Rattle.scfs_machine.specs.Layers.{Row}
-use Rattle.scfs_machine.specs.Steps.{Step}
-use Rattle.scfs_machine.specs.Agents.{Agent, For_close, Closed, asks_step}
-use Rattle.scfs_machine.specs.Closes.{goes_on}
+use Rattle.scfs_model.specs.Layers.{Row}
+use Rattle.scfs_model.specs.Steps.{Step}
+use Rattle.scfs_model.specs.Agents.{Agent, For_close, Closed, asks_step}
+use Rattle.scfs_model.specs.Closes.{goes_on}
 use Rattle.scfs_agent.specs.State.{AgentState}
 use Rattle.scfs_agent.specs.Views.{upload_of, closed_of}
 use Rattle.scfs_agent.specs.Outputs.{outputs_of}

@@ -2,11 +2,11 @@
 use Rattle.std.proofs.Common.{◌≡◌, ℕ, List, [], ◌∷◌, Option, Some, None, sym, ap, ◌∙◌}
 use Rattle.scfs_base.specs.declared.naming.RequestNo.{RequestNo}
 use Rattle.scfs_base.specs.declared.cloud.CloudAnswer.{CloudAnswer}
-use Rattle.scfs_machine.specs.Layers.{Row, rows}
-use Rattle.scfs_machine.specs.Agents.{Agent, Opening, Waiting, For_step, For_clouds, For_close, Closed, Upload, Reaction, silent}
-use Rattle.scfs_machine.specs.Opens.{open_hears, open_turns}
-use Rattle.scfs_machine.specs.Closes.{upload_hears, upload_turns}
-use Rattle.scfs_machine.specs.Reactions.{idle, to_work}
+use Rattle.scfs_model.specs.Layers.{Row, rows}
+use Rattle.scfs_model.specs.Agents.{Agent, Opening, Waiting, For_step, For_clouds, For_close, Closed, Upload, Reaction, silent}
+use Rattle.scfs_model.specs.Opens.{open_hears, open_turns}
+use Rattle.scfs_model.specs.Closes.{upload_hears, upload_turns}
+use Rattle.scfs_model.specs.Reactions.{idle, to_work}
 use Rattle.scfs_agent.specs.State.{AgentState, setup}
 use Rattle.scfs_agent.specs.Views.{waiting_of, closed_in}
 use Rattle.scfs_agent.specs.Outputs.{outputs_of}

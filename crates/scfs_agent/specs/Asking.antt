@@ -1,9 +1,9 @@
 use Rattle.std.specs.Prelude.{◌<◌, ◌^◌, ◌+◌, ℕ, Option, Some, None}
 use Rattle.scfs_anchor.specs.Tree.{Each}
 use Rattle.scfs_anchor.specs.Holding.{IsRequest, IsAskable, IsClosing}
-use Rattle.scfs_machine.specs.Names.{request_no}
-use Rattle.scfs_machine.specs.Layers.{Row}
-use Rattle.scfs_machine.specs.Agents.{Agent, Closed, Upload, Request}
+use Rattle.scfs_model.specs.Names.{request_no}
+use Rattle.scfs_model.specs.Layers.{Row}
+use Rattle.scfs_model.specs.Agents.{Agent, Closed, Upload, Request}
 
 -- Each step that an agent asks is one that the space serves as the machine does.
 

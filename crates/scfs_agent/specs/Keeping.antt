@@ -13,13 +13,13 @@ use Rattle.scfs_quorum_read.specs.declared.steps.ReadStep.{ReadStep}
 use Rattle.scfs_quorum_read.specs.declared.steps.ReadStep.TheVariants as read_steps
 use Rattle.scfs_quorum_write.specs.Acks.{count_of}
 use Rattle.scfs_anchor.specs.declared.seen.VersionRow.{VersionRow}
-use Rattle.scfs_machine.specs.Lists.{below}
-use Rattle.scfs_machine.specs.Asked as requests
-use Rattle.scfs_machine.specs.Layers.{Row}
-use Rattle.scfs_machine.specs.SessionSteps.{Open_read, Open_write, Commit}
-use Rattle.scfs_machine.specs.Steps.{Step, On_names, On_locks, On_sessions}
-use Rattle.scfs_machine.specs.Agents as machine
-use Rattle.scfs_machine.specs.Agents.{Waiting, For_step, For_clouds, For_close, Closed, Request}
+use Rattle.scfs_model.specs.Lists.{below}
+use Rattle.scfs_model.specs.Asked as requests
+use Rattle.scfs_model.specs.Layers.{Row}
+use Rattle.scfs_model.specs.SessionSteps.{Open_read, Open_write, Commit}
+use Rattle.scfs_model.specs.Steps.{Step, On_names, On_locks, On_sessions}
+use Rattle.scfs_model.specs.Agents as machine
+use Rattle.scfs_model.specs.Agents.{Waiting, For_step, For_clouds, For_close, Closed, Request}
 use Rattle.scfs_agent.specs.State.{AgentState}
 use Rattle.scfs_agent.specs.Settled.{OneBegun}
 use Rattle.scfs_agent.specs.Views.{asked_of, acked_of, turns_left, row_of, waiting_of, request_of}

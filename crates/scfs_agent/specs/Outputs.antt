@@ -4,12 +4,12 @@ use Rattle.scfs_base.specs.declared.cloud.CloudRequest.{CloudRequest}
 use Rattle.scfs_base.specs.declared.cloud.CloudRequest.TheVariants as requests
 use Rattle.scfs_unit.specs.Checking.{object_size}
 use Rattle.scfs_unit.specs.declared.sealing.Sealed.{Sealed}
-use Rattle.scfs_machine.specs.Names.{upload_name}
-use Rattle.scfs_machine.specs.Format.{object_at}
-use Rattle.scfs_machine.specs.Asked.{Asked}
-use Rattle.scfs_machine.specs.Layers.{Row}
-use Rattle.scfs_machine.specs.Sayings.{Saying, said_by}
-use Rattle.scfs_machine.specs.Agents.{Request, Sent, Reaction}
+use Rattle.scfs_model.specs.Names.{upload_name}
+use Rattle.scfs_model.specs.Format.{object_at}
+use Rattle.scfs_model.specs.Asked.{Asked}
+use Rattle.scfs_model.specs.Layers.{Row}
+use Rattle.scfs_model.specs.Sayings.{Saying, said_by}
+use Rattle.scfs_model.specs.Agents.{Request, Sent, Reaction}
 use Rattle.scfs_anchor.specs.StepPlans.{step_on_tuples}
 use Rattle.scfs_agent.specs.State.{AgentState}
 use Rattle.scfs_agent.specs.declared.types.Output.{Output}

@@ -1,12 +1,12 @@
 use Rattle.std.specs.Prelude.{◌≡◌, ◌<◌, ℕ, ◌+◌, ◌*◌, List}
 use Rattle.scfs_policy.specs.declared.rank.RankFacts.{RankFacts}
 use Rattle.scfs_anchor.specs.Tree.{Each}
-use Rattle.scfs_machine.specs.Layers.{Row, rows}
-use Rattle.scfs_machine.specs.Runs.{Answers}
-use Rattle.scfs_machine.specs.Steps.{Outcome}
-use Rattle.scfs_machine.specs.Agents as machine
-use Rattle.scfs_machine.specs.Agents.{Calls, Tells, Hears, Turns, Reaction}
-use Rattle.scfs_machine.specs.Reactions.{reacted}
+use Rattle.scfs_model.specs.Layers.{Row, rows}
+use Rattle.scfs_model.specs.Runs.{Answers}
+use Rattle.scfs_model.specs.Steps.{Outcome}
+use Rattle.scfs_model.specs.Agents as machine
+use Rattle.scfs_model.specs.Agents.{Calls, Tells, Hears, Turns, Reaction}
+use Rattle.scfs_model.specs.Reactions.{reacted}
 use Rattle.scfs_agent.specs.State.{AgentState, setup, given_now}
 use Rattle.scfs_agent.specs.Asking.{CanBeAsked}
 use Rattle.scfs_agent.specs.Outputs.{outputs_of}

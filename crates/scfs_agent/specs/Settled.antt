@@ -1,8 +1,8 @@
 use Rattle.std.specs.Prelude.{◌≡◌, ℕ, List, [], ◌∷◌, true, is_some}
-use Rattle.scfs_machine.specs.Format.{Setup}
-use Rattle.scfs_machine.specs.Layers.{Row, rows}
-use Rattle.scfs_machine.specs.Agents.{Closed, Reaction, followed}
-use Rattle.scfs_machine.specs.Reactions.{next_begun}
+use Rattle.scfs_model.specs.Format.{Setup}
+use Rattle.scfs_model.specs.Layers.{Row, rows}
+use Rattle.scfs_model.specs.Agents.{Closed, Reaction, followed}
+use Rattle.scfs_model.specs.Reactions.{next_begun}
 
 -- the upload of the first closed session begins behind a reaction, unless it has begun
 abbrev pub settled : Setup → (a : ℕ) → Reaction Row → Reaction Row

@@ -1,10 +1,10 @@
 use Rattle.std.specs.Prelude.{ℕ, List}
 use Rattle.scfs_schedule.specs.declared.types.Header.{Header}
-use Rattle.scfs_machine.specs.Format.{Setup}
-use Rattle.scfs_machine.specs.UnitFormat.{under}
-use Rattle.scfs_machine.specs.Given.{Given}
-use Rattle.scfs_machine.specs.Layers.{Row}
-use Rattle.scfs_machine.specs.Agents.{Agent}
+use Rattle.scfs_model.specs.Format.{Setup}
+use Rattle.scfs_model.specs.UnitFormat.{under}
+use Rattle.scfs_model.specs.Given.{Given}
+use Rattle.scfs_model.specs.Layers.{Row}
+use Rattle.scfs_model.specs.Agents.{Agent}
 
 -- Contracts see an agent so: the header of its run, its number, how many inputs it was given, and the machine's agent.
 pub record AgentState : Type 0 where

@@ -14,13 +14,13 @@ use Rattle.scfs_anchor.specs.Replies.{sight_of}
 use Rattle.scfs_anchor.specs.StepReplies.{IsReplyTo, FitsOutcome}
 use Rattle.scfs_anchor.specs.declared.seen.Sight.{Sight}
 use Rattle.scfs_anchor.specs.declared.seen.VersionRow.{VersionRow}
-use Rattle.scfs_machine.specs.Names.{same_request, root_id}
-use Rattle.scfs_machine.specs.Layers.{Row}
-use Rattle.scfs_machine.specs.SessionSteps as machine
-use Rattle.scfs_machine.specs.SessionSteps.{Session_step, Open_read, Open_write, Commit}
-use Rattle.scfs_machine.specs.Steps.{Step, On_names, On_locks, On_sessions, Outcome, Of_names, Of_locks, Of_sessions}
-use Rattle.scfs_machine.specs.Agents.{Request}
-use Rattle.scfs_machine.specs.Opens.{Found, As_empty, On_clouds}
+use Rattle.scfs_model.specs.Names.{same_request, root_id}
+use Rattle.scfs_model.specs.Layers.{Row}
+use Rattle.scfs_model.specs.SessionSteps as machine
+use Rattle.scfs_model.specs.SessionSteps.{Session_step, Open_read, Open_write, Commit}
+use Rattle.scfs_model.specs.Steps.{Step, On_names, On_locks, On_sessions, Outcome, Of_names, Of_locks, Of_sessions}
+use Rattle.scfs_model.specs.Agents.{Request}
+use Rattle.scfs_model.specs.Opens.{Found, As_empty, On_clouds}
 use Rattle.scfs_agent.specs.State.{AgentState}
 use Rattle.scfs_agent.specs.Views.{row_of}
 use Rattle.scfs_agent.specs.Keeping.{IsRow}

@@ -6,19 +6,19 @@ use Rattle.scfs_quorum_read.specs.declared.steps.ReadStep.TheVariants as read_st
 use Rattle.scfs_session.specs.declared.sessions.Ended.{Ended}
 use Rattle.scfs_session.specs.declared.sessions.Session.{Session}
 use Rattle.scfs_anchor.specs.declared.seen.VersionRow.{VersionRow}
-use Rattle.scfs_machine.specs.Lists.{below}
+use Rattle.scfs_model.specs.Lists.{below}
 use Rattle.scfs_base.specs.Limits.{turns_limit}
-use Rattle.scfs_machine.specs.Names.{upload_name}
-use Rattle.scfs_machine.specs.Asked as machine
-use Rattle.scfs_machine.specs.Layers.{Row}
-use Rattle.scfs_machine.specs.Next.{Next, Goes_on, Asks, Has}
-use Rattle.scfs_machine.specs.Reading.{Reading}
-use Rattle.scfs_machine.specs.Storing.{Storing}
-use Rattle.scfs_machine.specs.NameSteps.{Make, Look}
-use Rattle.scfs_machine.specs.LockSteps.{Unlock}
-use Rattle.scfs_machine.specs.SessionSteps.{Open_read, Open_write, Commit}
-use Rattle.scfs_machine.specs.Steps.{Step, On_names, On_locks, On_sessions}
-use Rattle.scfs_machine.specs.Agents.{Opening, Waiting, For_step, For_clouds, For_close, Upload, Closed, Request}
+use Rattle.scfs_model.specs.Names.{upload_name}
+use Rattle.scfs_model.specs.Asked as machine
+use Rattle.scfs_model.specs.Layers.{Row}
+use Rattle.scfs_model.specs.Next.{Next, Goes_on, Asks, Has}
+use Rattle.scfs_model.specs.Reading.{Reading}
+use Rattle.scfs_model.specs.Storing.{Storing}
+use Rattle.scfs_model.specs.NameSteps.{Make, Look}
+use Rattle.scfs_model.specs.LockSteps.{Unlock}
+use Rattle.scfs_model.specs.SessionSteps.{Open_read, Open_write, Commit}
+use Rattle.scfs_model.specs.Steps.{Step, On_names, On_locks, On_sessions}
+use Rattle.scfs_model.specs.Agents.{Opening, Waiting, For_step, For_clouds, For_close, Upload, Closed, Request}
 use Rattle.scfs_agent.specs.declared.work.Asked.{Asked}
 use Rattle.scfs_agent.specs.declared.work.Asking.{Asking}
 use Rattle.scfs_agent.specs.declared.work.Asking.TheVariants as askings

@@ -1,7 +1,7 @@
 ghost use Rattle.std.specs.Prelude.{◌≡◌, ◌<◌, ◌≤◌, ◌+◌, ◌*◌, ◌^◌, [], ◌∷◌, ◌++◌, length, IfOk, OnOk};
-ghost use Rattle.scfs_machine.specs.Asked as machine;
-ghost use Rattle.scfs_machine.specs.Format.{object_at};
-ghost use Rattle.scfs_machine.specs.Names.{same_request, upload_name};
+ghost use Rattle.scfs_model.specs.Asked as machine;
+ghost use Rattle.scfs_model.specs.Format.{object_at};
+ghost use Rattle.scfs_model.specs.Names.{same_request, upload_name};
 ghost use Rattle.scfs_agent.specs.Views.{asked_of};
 ghost use Rattle.scfs_agent.specs.Outputs.{get_body, put_body, sent_to, sent_outputs};
 

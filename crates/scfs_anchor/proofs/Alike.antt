@@ -6,13 +6,13 @@ use Rattle.scfs_tuples.specs.After.{Failed, tested, result_of, left_by, reply_am
 use Rattle.scfs_tuples.specs.declared.types.Step.{Step}
 use Rattle.scfs_tuples.specs.declared.types.StepResult.TheVariants.{Refused}
 use Rattle.scfs_tuples.specs.declared.types.Tuple.{Tuple}
-use Rattle.scfs_machine.specs.Layers.{Row}
-use Rattle.scfs_machine.specs.Lists.{without_first}
-use Rattle.scfs_machine.specs.Tree.{is_node_at, is_lock_by}
-use Rattle.scfs_machine.specs.Walks.{OrRefusal}
-use Rattle.scfs_machine.specs.NameSteps.{Name_step, Name_outcome, Makes, Shows}
-use Rattle.scfs_machine.specs.SessionSteps.{Session_step, Session_outcome, Sees, Locks, Completes}
-use Rattle.scfs_machine.specs.Steps.{after_ok}
+use Rattle.scfs_model.specs.Layers.{Row}
+use Rattle.scfs_model.specs.Lists.{without_first}
+use Rattle.scfs_model.specs.Tree.{is_node_at, is_lock_by}
+use Rattle.scfs_model.specs.Walks.{OrRefusal}
+use Rattle.scfs_model.specs.NameSteps.{Name_step, Name_outcome, Makes, Shows}
+use Rattle.scfs_model.specs.SessionSteps.{Session_step, Session_outcome, Sees, Locks, Completes}
+use Rattle.scfs_model.specs.Steps.{after_ok}
 use Rattle.scfs_anchor.specs.Plans.{step_of}
 use Rattle.scfs_anchor.specs.Replies.{refusal_at, refusal_in}
 use Rattle.scfs_anchor.specs.Items.{Item, Of_node, Of_version, Of_lock, space_of}

@@ -3,11 +3,11 @@ use Rattle.std.proofs.lemmas.List.{append-nil}
 use Rattle.std.proofs.lemmas.List.Elements.{filter_map-append}
 use Rattle.scfs_base.specs.declared.naming.RequestNo.{RequestNo}
 use Rattle.scfs_schedule.specs.declared.types.Kind.TheVariants.{File}
-use Rattle.scfs_machine.specs.Layers.{Row, rows}
-use Rattle.scfs_machine.specs.Lists.{without_first}
-use Rattle.scfs_machine.specs.Tree.{Node, Lock, node_at, session_lock, is_lock_by, is_node_at}
-use Rattle.scfs_machine.specs.SessionSteps.{with_version}
-use Rattle.scfs_machine.specs.Steps.{after_ok}
+use Rattle.scfs_model.specs.Layers.{Row, rows}
+use Rattle.scfs_model.specs.Lists.{without_first}
+use Rattle.scfs_model.specs.Tree.{Node, Lock, node_at, session_lock, is_lock_by, is_node_at}
+use Rattle.scfs_model.specs.SessionSteps.{with_version}
+use Rattle.scfs_model.specs.Steps.{after_ok}
 use Rattle.scfs_anchor.specs.Tree.{Each, IsEntry, IsNode, IsVersion}
 use Rattle.scfs_anchor.specs.Items.{Item, Of_node, Of_version, Of_lock, row_said, node_said, entry_of, entries_of, nodes, versions, locks}
 use Rattle.scfs_anchor.specs.Items as item

@@ -16,11 +16,11 @@ use Rattle.scfs_tuples.specs.declared.types.Field.TheVariants.{Num, Text}
 use Rattle.scfs_tuples.specs.declared.types.Tuple.{Tuple}
 use Rattle.scfs_tuples.specs.declared.types.Want.{Want}
 use Rattle.scfs_tuples.specs.declared.types.Want.TheVariants.{Any, Bind}
-use Rattle.scfs_machine.specs.Layers.{Row, rows}
-use Rattle.scfs_machine.specs.Lists.{without_first}
-use Rattle.scfs_machine.specs.Tree.{Node, Lock, node_at, session_lock, is_lock_by, is_node_at}
-use Rattle.scfs_machine.specs.Walks.{OrRefusal, on_ok}
-use Rattle.scfs_machine.specs.SessionSteps.{Commit, Session_outcome, Completes, still_held, with_version, session_outcome}
+use Rattle.scfs_model.specs.Layers.{Row, rows}
+use Rattle.scfs_model.specs.Lists.{without_first}
+use Rattle.scfs_model.specs.Tree.{Node, Lock, node_at, session_lock, is_lock_by, is_node_at}
+use Rattle.scfs_model.specs.Walks.{OrRefusal, on_ok}
+use Rattle.scfs_model.specs.SessionSteps.{Commit, Session_outcome, Completes, still_held, with_version, session_outcome}
 use Rattle.scfs_anchor.specs.Shapes.{number, node}
 use Rattle.scfs_anchor.specs.Plans as plans
 use Rattle.scfs_anchor.specs.Plans.{step_of}

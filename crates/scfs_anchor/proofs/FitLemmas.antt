@@ -7,10 +7,10 @@ use Rattle.scfs_base.specs.declared.naming.RequestNo.{RequestNo}
 use Rattle.scfs_schedule.specs.declared.types.Kind.{Kind}
 use Rattle.scfs_schedule.specs.declared.types.Kind.TheVariants as kinds
 use Rattle.scfs_schedule.specs.declared.types.Refusal.TheVariants as refusals
-use Rattle.scfs_machine.specs.Tree.{Node, Lock, node_in, is_lock_by}
-use Rattle.scfs_machine.specs.Walks.{OrRefusal}
-use Rattle.scfs_machine.specs.NameSteps.{Make, Look, made, new_file, name_outcome}
-use Rattle.scfs_machine.specs.LockSteps.{Lock_step, Unlock, lock_outcome}
+use Rattle.scfs_model.specs.Tree.{Node, Lock, node_in, is_lock_by}
+use Rattle.scfs_model.specs.Walks.{OrRefusal}
+use Rattle.scfs_model.specs.NameSteps.{Make, Look, made, new_file, name_outcome}
+use Rattle.scfs_model.specs.LockSteps.{Lock_step, Unlock, lock_outcome}
 use Rattle.scfs_anchor.specs.Shapes.{root}
 use Rattle.scfs_anchor.specs.Tree as anchor
 use Rattle.scfs_anchor.specs.Tree.{Entry, Each, IsEntry, IsTree, Apart}

@@ -6,13 +6,13 @@ use Rattle.scfs_base.specs.declared.naming.RequestNo.{RequestNo}
 use Rattle.scfs_schedule.specs.declared.types.Kind.TheVariants as kinds
 use Rattle.scfs_tuples.specs.After.{reply_among, left_among}
 use Rattle.scfs_tuples.specs.declared.types.Tuple.{Tuple}
-use Rattle.scfs_machine.specs.Layers.{Row, rows}
-use Rattle.scfs_machine.specs.Tree.{Node, Lock, Tree}
-use Rattle.scfs_machine.specs.Tree as machine
-use Rattle.scfs_machine.specs.Walks.{OrRefusal}
-use Rattle.scfs_machine.specs.NameSteps.{Make, Look, Name_outcome, name_outcome}
-use Rattle.scfs_machine.specs.SessionSteps.{Open_read, Open_write, Commit, Session_outcome, session_outcome}
-use Rattle.scfs_machine.specs.Steps.{Step, On_names, On_locks, On_sessions, Served, served, after_ok}
+use Rattle.scfs_model.specs.Layers.{Row, rows}
+use Rattle.scfs_model.specs.Tree.{Node, Lock, Tree}
+use Rattle.scfs_model.specs.Tree as machine
+use Rattle.scfs_model.specs.Walks.{OrRefusal}
+use Rattle.scfs_model.specs.NameSteps.{Make, Look, Name_outcome, name_outcome}
+use Rattle.scfs_model.specs.SessionSteps.{Open_read, Open_write, Commit, Session_outcome, session_outcome}
+use Rattle.scfs_model.specs.Steps.{Step, On_names, On_locks, On_sessions, Served, served, after_ok}
 use Rattle.scfs_anchor.specs.Shapes.{root}
 use Rattle.scfs_anchor.specs.Tree as anchor
 use Rattle.scfs_anchor.specs.Tree.{Each, Apart, IsEntry, IsTree}

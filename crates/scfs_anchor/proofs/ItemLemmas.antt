@@ -8,10 +8,10 @@ use Rattle.std.proofs.lemmas.Slice.Eq.{bytes_eq-Decides}
 use Rattle.std.proofs.lemmas.List.{map-append}
 use Rattle.scfs_base.specs.declared.naming.FileId.{FileId}
 use Rattle.scfs_tuples.specs.After as space
-use Rattle.scfs_machine.specs.Layers.{Row, rows}
-use Rattle.scfs_machine.specs.Names.{same_file}
-use Rattle.scfs_machine.specs.Tree.{Node, Lock, Tree, node_in, version_at, lock_on}
-use Rattle.scfs_machine.specs.Tree as machine
+use Rattle.scfs_model.specs.Layers.{Row, rows}
+use Rattle.scfs_model.specs.Names.{same_file}
+use Rattle.scfs_model.specs.Tree.{Node, Lock, Tree, node_in, version_at, lock_on}
+use Rattle.scfs_model.specs.Tree as machine
 use Rattle.scfs_anchor.specs.Tree as anchor
 use Rattle.scfs_anchor.specs.Items.{Item, Of_node, Of_version, Of_lock, row_said, node_said, lock_said, entry_of, entries_of, space_of, nodes, versions, locks, tree_of, live}
 use Rattle.scfs_anchor.specs.declared.seen.VersionRow.{VersionRow}

@@ -7,7 +7,7 @@ use Rattle.scfs_tuples.specs.Matching as matching
 use Rattle.scfs_tuples.specs.declared.types.Field.{Field}
 use Rattle.scfs_tuples.specs.declared.types.Tuple.{Tuple}
 use Rattle.scfs_tuples.specs.declared.types.Want.{Want}
-use Rattle.scfs_machine.specs.Lists.{without_first}
+use Rattle.scfs_model.specs.Lists.{without_first}
 use Rattle.scfs_anchor.specs.Tree.{Each, tuple_of}
 use Rattle.scfs_anchor.specs.Items.{Item, entry_of, space_of}
 

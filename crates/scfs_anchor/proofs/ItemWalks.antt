@@ -4,8 +4,8 @@ use Rattle.scfs_base.specs.declared.naming.FileId.{FileId}
 use Rattle.scfs_schedule.specs.declared.types.Kind.{Kind}
 use Rattle.scfs_schedule.specs.declared.types.Kind.TheVariants as kinds
 use Rattle.scfs_schedule.specs.declared.types.Refusal.TheVariants as refusals
-use Rattle.scfs_machine.specs.Tree.{Node, node_in}
-use Rattle.scfs_machine.specs.Walks.{OrRefusal, by_kind, from_directory, from_file, walk}
+use Rattle.scfs_model.specs.Tree.{Node, node_in}
+use Rattle.scfs_model.specs.Walks.{OrRefusal, by_kind, from_directory, from_file, walk}
 use Rattle.scfs_anchor.specs.Tree as anchor
 use Rattle.scfs_anchor.specs.Items.{Item, node_said, entries_of, nodes}
 use Rattle.scfs_anchor.specs.StepPlans.{last_name}

@@ -2,8 +2,8 @@ use Rattle.std.proofs.Common.{◌≡◌, ℕ, List, [], ◌∷◌, Bool, true, f
 use Rattle.std.specs.Prelude.{filter, not}
 use Rattle.scfs_base.specs.declared.naming.FileId.{FileId}
 use Rattle.scfs_base.specs.declared.naming.RequestNo.{RequestNo}
-use Rattle.scfs_machine.specs.Lists.{without_first}
-use Rattle.scfs_machine.specs.Tree.{is_lock_by, is_node_at}
+use Rattle.scfs_model.specs.Lists.{without_first}
+use Rattle.scfs_model.specs.Tree.{is_lock_by, is_node_at}
 use Rattle.scfs_anchor.specs.Items.{Item, Of_node, Of_version, Of_lock, nodes, versions, locks}
 use Rattle.scfs_anchor.proofs.Alike.{is_lock_item, is_node_item}
 

@@ -2,7 +2,7 @@ use Rattle.std.proofs.Common.{◌≡◌, List, [], ◌∷◌, ◌++◌, map, Boo
 use Rattle.std.specs.Prelude.{filter}
 use Rattle.std.specs.List.{find, list_any}
 use Rattle.scfs_anchor.specs.Tree.{Each, Apart}
-use Rattle.scfs_machine.specs.Lists.{without_first}
+use Rattle.scfs_model.specs.Lists.{without_first}
 
 -- Lists whose items hold something each, or of which no two go together: parts of them, and items behind them.
 

@@ -12,10 +12,10 @@ use Rattle.scfs_tuples.specs.declared.types.Field.TheVariants.{Num, Text}
 use Rattle.scfs_tuples.specs.declared.types.Tuple.{Tuple}
 use Rattle.scfs_tuples.specs.declared.types.Want.{Want}
 use Rattle.scfs_tuples.specs.declared.types.Want.TheVariants.{Any}
-use Rattle.scfs_machine.specs.Names.{root_id}
-use Rattle.scfs_machine.specs.Tree.{Node, node_in}
-use Rattle.scfs_machine.specs.Walks.{OrRefusal}
-use Rattle.scfs_machine.specs.NameSteps.{Make, Name_outcome, Makes, new_file, made, name_outcome}
+use Rattle.scfs_model.specs.Names.{root_id}
+use Rattle.scfs_model.specs.Tree.{Node, node_in}
+use Rattle.scfs_model.specs.Walks.{OrRefusal}
+use Rattle.scfs_model.specs.NameSteps.{Make, Name_outcome, Makes, new_file, made, name_outcome}
 use Rattle.scfs_anchor.specs.Shapes.{root, text, node, directory}
 use Rattle.scfs_anchor.specs.Plans.{reach, before_last, step_of}
 use Rattle.scfs_anchor.specs.Replies.{refusal_at}

@@ -4,10 +4,10 @@ use Rattle.std.specs.List.{find}
 use Rattle.std.proofs.lemmas.Bool.Decides.{nat_tests}
 use Rattle.scfs_base.specs.declared.naming.FileId.{FileId}
 use Rattle.scfs_schedule.specs.declared.types.Kind.TheVariants.{File}
-use Rattle.scfs_machine.specs.Layers.{Row}
-use Rattle.scfs_machine.specs.Lists.{without_first}
-use Rattle.scfs_machine.specs.Names.{same_file}
-use Rattle.scfs_machine.specs.Tree.{Node}
+use Rattle.scfs_model.specs.Layers.{Row}
+use Rattle.scfs_model.specs.Lists.{without_first}
+use Rattle.scfs_model.specs.Names.{same_file}
+use Rattle.scfs_model.specs.Tree.{Node}
 use Rattle.scfs_anchor.specs.Tree.{Each, Apart}
 use Rattle.scfs_anchor.proofs.SightLemmas.{number_eq}
 use Rattle.scfs_anchor.proofs.ItemLemmas.{eqb_sym, bytes_sym, both_same}

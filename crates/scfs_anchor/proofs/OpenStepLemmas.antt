@@ -5,12 +5,12 @@ use Rattle.scfs_base.specs.declared.naming.FileId.{FileId}
 use Rattle.scfs_base.specs.declared.naming.RequestNo.{RequestNo}
 use Rattle.scfs_tuples.specs.After.{reply_of, left_after, reply_among, left_among}
 use Rattle.scfs_tuples.specs.declared.types.Tuple.{Tuple}
-use Rattle.scfs_machine.specs.Layers.{Row, rows}
-use Rattle.scfs_machine.specs.Names.{same_file, root_id}
-use Rattle.scfs_machine.specs.Tree.{Node, Lock, version_at, lock_on}
-use Rattle.scfs_machine.specs.Walks.{OrRefusal, on_ok, unlocked}
-use Rattle.scfs_machine.specs.SessionSteps.{Open_read, Open_write, Session_outcome, Sees, Locks, sight_of, new_lock, session_outcome}
-use Rattle.scfs_machine.specs.SessionSteps as machine
+use Rattle.scfs_model.specs.Layers.{Row, rows}
+use Rattle.scfs_model.specs.Names.{same_file, root_id}
+use Rattle.scfs_model.specs.Tree.{Node, Lock, version_at, lock_on}
+use Rattle.scfs_model.specs.Walks.{OrRefusal, on_ok, unlocked}
+use Rattle.scfs_model.specs.SessionSteps.{Open_read, Open_write, Session_outcome, Sees, Locks, sight_of, new_lock, session_outcome}
+use Rattle.scfs_model.specs.SessionSteps as machine
 use Rattle.scfs_anchor.specs.Shapes.{root}
 use Rattle.scfs_anchor.specs.Plans.{step_of, open_read}
 use Rattle.scfs_anchor.specs.Tree as anchor

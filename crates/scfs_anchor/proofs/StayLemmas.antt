@@ -9,13 +9,13 @@ use Rattle.scfs_base.specs.declared.naming.RequestNo.{RequestNo}
 use Rattle.scfs_schedule.specs.declared.types.Kind.{Kind}
 use Rattle.scfs_schedule.specs.declared.types.Kind.TheVariants as kinds
 use Rattle.scfs_schedule.specs.declared.types.Refusal.TheVariants as refusals
-use Rattle.scfs_machine.specs.Layers.{Row, rows}
-use Rattle.scfs_machine.specs.Tree.{Node, Lock, Tree, node_in, lock_on, is_lock_by}
-use Rattle.scfs_machine.specs.Walks.{OrRefusal, on_ok, unlocked}
-use Rattle.scfs_machine.specs.NameSteps.{Name_outcome, made, new_file, nodes_after}
-use Rattle.scfs_machine.specs.LockSteps.{Lock_step, Unlock, locks_after}
-use Rattle.scfs_machine.specs.SessionSteps.{Session_outcome, Locks, sight_of, new_lock, session_after}
-use Rattle.scfs_machine.specs.Steps.{after_ok}
+use Rattle.scfs_model.specs.Layers.{Row, rows}
+use Rattle.scfs_model.specs.Tree.{Node, Lock, Tree, node_in, lock_on, is_lock_by}
+use Rattle.scfs_model.specs.Walks.{OrRefusal, on_ok, unlocked}
+use Rattle.scfs_model.specs.NameSteps.{Name_outcome, made, new_file, nodes_after}
+use Rattle.scfs_model.specs.LockSteps.{Lock_step, Unlock, locks_after}
+use Rattle.scfs_model.specs.SessionSteps.{Session_outcome, Locks, sight_of, new_lock, session_after}
+use Rattle.scfs_model.specs.Steps.{after_ok}
 use Rattle.scfs_anchor.specs.Tree as anchor
 use Rattle.scfs_anchor.specs.Tree.{Each, Apart, IsEntry, IsTree}
 use Rattle.scfs_anchor.specs.Items.{Item, Of_node, Of_lock, node_said, entry_of, entries_of, nodes, versions, locks, tree_of}

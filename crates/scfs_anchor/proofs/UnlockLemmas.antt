@@ -8,8 +8,8 @@ use Rattle.scfs_base.specs.declared.naming.RequestNo.{RequestNo}
 use Rattle.scfs_tuples.specs.After.{reply_among, left_among}
 use Rattle.scfs_tuples.specs.declared.types.Field.{Field}
 use Rattle.scfs_tuples.specs.declared.types.Want.{Want}
-use Rattle.scfs_machine.specs.Tree.{session_lock, is_lock_by}
-use Rattle.scfs_machine.specs.LockSteps.{Lock_step, Unlock, lock_outcome}
+use Rattle.scfs_model.specs.Tree.{session_lock, is_lock_by}
+use Rattle.scfs_model.specs.LockSteps.{Lock_step, Unlock, lock_outcome}
 use Rattle.scfs_anchor.specs.Plans as plans
 use Rattle.scfs_anchor.specs.Plans.{step_of}
 use Rattle.scfs_anchor.specs.Items.{Item, Of_node, Of_version, Of_lock, space_of, locks}

@@ -5,9 +5,9 @@ use Rattle.std.specs.Option.{option_map}
 use Rattle.std.specs.Str.{bytes_eq}
 use Rattle.scfs_base.specs.declared.naming.FileId.{FileId}
 use Rattle.scfs_schedule.specs.declared.types.Kind.TheVariants.{File}
-use Rattle.scfs_machine.specs.Layers.{Row}
-use Rattle.scfs_machine.specs.Names.{same_file}
-use Rattle.scfs_machine.specs.Tree.{Node, Lock}
+use Rattle.scfs_model.specs.Layers.{Row}
+use Rattle.scfs_model.specs.Names.{same_file}
+use Rattle.scfs_model.specs.Tree.{Node, Lock}
 use Rattle.scfs_anchor.specs.Tree as anchor
 use Rattle.scfs_anchor.specs.Tree.{Each, Apart, IsEntry, IsTree}
 use Rattle.scfs_anchor.specs.Items.{Item, row_said, node_said, lock_said, entries_of, nodes, versions, locks, live}

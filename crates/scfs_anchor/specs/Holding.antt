@@ -5,11 +5,11 @@ use Rattle.scfs_schedule.specs.declared.types.Kind.TheVariants.{File}
 use Rattle.scfs_base.specs.Limits.{contents_limit}
 use Rattle.scfs_tuples.specs.After.{reply_of, left_after}
 use Rattle.scfs_tuples.specs.declared.types.Tuple.{Tuple}
-use Rattle.scfs_machine.specs.Layers.{Row, rows}
-use Rattle.scfs_machine.specs.Tree.{Node, Lock, Tree, empty_tree, live}
-use Rattle.scfs_machine.specs.NameSteps.{Make, Look}
-use Rattle.scfs_machine.specs.SessionSteps.{Open_read, Open_write, Commit}
-use Rattle.scfs_machine.specs.Steps.{Step, On_names, On_locks, On_sessions, Served, served}
+use Rattle.scfs_model.specs.Layers.{Row, rows}
+use Rattle.scfs_model.specs.Tree.{Node, Lock, Tree, empty_tree, live}
+use Rattle.scfs_model.specs.NameSteps.{Make, Look}
+use Rattle.scfs_model.specs.SessionSteps.{Open_read, Open_write, Commit}
+use Rattle.scfs_model.specs.Steps.{Step, On_names, On_locks, On_sessions, Served, served}
 use Rattle.scfs_anchor.specs.Tree.{Each, IsTree}
 use Rattle.scfs_anchor.specs.Items.{Item, entries_of, space_of, tree_of}
 use Rattle.scfs_anchor.specs.StepPlans.{step_on_tuples}

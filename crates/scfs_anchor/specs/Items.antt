@@ -1,8 +1,8 @@
 use Rattle.std.specs.Prelude.{List, map, filter, Option, Some, None, Bool, true, nat_lt, ℕ}
 use Rattle.std.specs.List.{filter_map}
 use Rattle.scfs_tuples.specs.declared.types.Tuple.{Tuple}
-use Rattle.scfs_machine.specs.Layers.{Row}
-use Rattle.scfs_machine.specs.Tree.{Node, Lock, Tree}
+use Rattle.scfs_model.specs.Layers.{Row}
+use Rattle.scfs_model.specs.Tree.{Node, Lock, Tree}
 use Rattle.scfs_anchor.specs.Tree as anchor
 use Rattle.scfs_anchor.specs.Tree.{Entry, OfNode, OfVersion, OfLock, tuples_of}
 use Rattle.scfs_anchor.specs.declared.seen.VersionRow.{VersionRow}

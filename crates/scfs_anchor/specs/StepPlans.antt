@@ -8,12 +8,12 @@ use Rattle.scfs_tuples.specs.declared.types.Give.{Give}
 use Rattle.scfs_tuples.specs.declared.types.Give.TheVariants as gives
 use Rattle.scfs_tuples.specs.declared.types.Template.{Template}
 use Rattle.scfs_tuples.specs.declared.types.Step.{Step}
-use Rattle.scfs_machine.specs.Layers.{Row}
-use Rattle.scfs_machine.specs.NameSteps.{Name_step, Make, Look}
-use Rattle.scfs_machine.specs.LockSteps.{Lock_step, Unlock}
-use Rattle.scfs_machine.specs.SessionSteps.{Session_step, Open_read, Open_write, Commit}
-use Rattle.scfs_machine.specs.Steps.{On_names, On_locks, On_sessions}
-use Rattle.scfs_machine.specs.Steps as machine
+use Rattle.scfs_model.specs.Layers.{Row}
+use Rattle.scfs_model.specs.NameSteps.{Name_step, Make, Look}
+use Rattle.scfs_model.specs.LockSteps.{Lock_step, Unlock}
+use Rattle.scfs_model.specs.SessionSteps.{Session_step, Open_read, Open_write, Commit}
+use Rattle.scfs_model.specs.Steps.{On_names, On_locks, On_sessions}
+use Rattle.scfs_model.specs.Steps as machine
 use Rattle.scfs_anchor.specs.Shapes.{node, text, directory, given, given_text, root}
 use Rattle.scfs_anchor.specs.Plans.{Condition, needs, reach, before_last, Plan, step_of, open_read, open_write, commit, unlock}
 use Rattle.scfs_anchor.specs.Items.{row_said}

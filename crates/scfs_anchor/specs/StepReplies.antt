@@ -9,14 +9,14 @@ use Rattle.scfs_tuples.specs.declared.types.Reply.{Reply}
 use Rattle.scfs_tuples.specs.declared.types.Step.{Step}
 use Rattle.scfs_tuples.specs.declared.types.StepResult.{StepResult}
 use Rattle.scfs_tuples.specs.declared.types.StepResult.TheVariants as results
-use Rattle.scfs_machine.specs.Layers.{Row}
-use Rattle.scfs_machine.specs.Tree.{Node, Lock}
-use Rattle.scfs_machine.specs.Walks.{OrRefusal, root_node}
-use Rattle.scfs_machine.specs.NameSteps.{Name_step, Make, Look, Name_outcome, Makes, Shows}
-use Rattle.scfs_machine.specs.LockSteps.{Lock_step, Lock_outcome, Frees}
-use Rattle.scfs_machine.specs.SessionSteps.{Session_step, Open_read, Open_write, Commit, Session_outcome, Sees, Locks, Completes}
-use Rattle.scfs_machine.specs.SessionSteps as machine
-use Rattle.scfs_machine.specs.Steps.{Outcome, Of_names, Of_locks, Of_sessions}
+use Rattle.scfs_model.specs.Layers.{Row}
+use Rattle.scfs_model.specs.Tree.{Node, Lock}
+use Rattle.scfs_model.specs.Walks.{OrRefusal, root_node}
+use Rattle.scfs_model.specs.NameSteps.{Name_step, Make, Look, Name_outcome, Makes, Shows}
+use Rattle.scfs_model.specs.LockSteps.{Lock_step, Lock_outcome, Frees}
+use Rattle.scfs_model.specs.SessionSteps.{Session_step, Open_read, Open_write, Commit, Session_outcome, Sees, Locks, Completes}
+use Rattle.scfs_model.specs.SessionSteps as machine
+use Rattle.scfs_model.specs.Steps.{Outcome, Of_names, Of_locks, Of_sessions}
 use Rattle.scfs_anchor.specs.Plans.{step_of}
 use Rattle.scfs_anchor.specs.Replies.{ShowsSight, refusal_in, IsRow}
 use Rattle.scfs_anchor.specs.Tree.{IsNode, kind_number}

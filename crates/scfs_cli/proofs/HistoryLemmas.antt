@@ -7,12 +7,12 @@ use Rattle.scfs_schedule.specs.declared.types.Header.{Header}
 use Rattle.scfs_schedule.specs.declared.types.Ending.{Ending}
 use Rattle.scfs_schedule.specs.Reading.{Reading, IsAtEvents, Read, read, stopped, with_event, with_header}
 use Rattle.scfs_world.specs.Built.{is_built_header}
-use Rattle.scfs_machine.specs.Held.{ReadsHeld}
-use Rattle.scfs_machine.specs.Newest.{OpensNewest}
-use Rattle.scfs_machine.specs.History.{Entry, History, events_then, transcript}
-use Rattle.scfs_machine.specs.Runs.{Happens, Run}
-use Rattle.scfs_machine.specs.UnitFormat.{under}
-use Rattle.scfs_machine.specs.Blocks.{NoClash}
+use Rattle.scfs_laws.specs.Held.{ReadsHeld}
+use Rattle.scfs_laws.specs.Newest.{OpensNewest}
+use Rattle.scfs_model.specs.History.{Entry, History, events_then, transcript}
+use Rattle.scfs_model.specs.Runs.{Happens, Run}
+use Rattle.scfs_model.specs.UnitFormat.{under}
+use Rattle.scfs_laws.specs.Blocks.{NoClash}
 use Rattle.scfs_cli.specs.declared.play.Played.{Played}
 use Rattle.scfs_cli.specs.declared.play.Played.TheVariants as playeds
 use Rattle.scfs_cli.specs.declared.closing.Filled.{Filled}
@@ -25,8 +25,8 @@ use Rattle.scfs_cli.specs.declared.closing.LastLine.{LastLine}
 use Rattle.scfs_cli.specs.Closing.{closing_of, closing_text, closing_status, last_line_text, status_of}
 use Rattle.scfs_cli.specs.Edges.{GetsFront, GetsPart}
 use Rattle.scfs_world.specs.Happening.{IsPlayed}
-use Rattle.scfs_machine.specs.Format.{Setup}
-use Rattle.scfs_machine.specs.Laws.{NoClashBefore}
+use Rattle.scfs_model.specs.Format.{Setup}
+use Rattle.scfs_laws.specs.Laws.{NoClashBefore}
 use Rattle.scfs_cli.specs.Finishing.{IsTooLargeNext, EndsWith}
 use Rattle.scfs_cli.specs.Headline.{Closes, GetsText, IsStatus, ReplaysText}
 use Rattle.scfs_cli.proofs.ClosingLemmas.{line_behind, part_behind, status_behind}

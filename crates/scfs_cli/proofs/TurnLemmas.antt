@@ -6,14 +6,14 @@ use Rattle.scfs_schedule.specs.declared.types.Event.{Event}
 use Rattle.scfs_schedule.specs.declared.types.Header.{Header}
 use Rattle.scfs_schedule.specs.declared.types.Line.{Line}
 use Rattle.scfs_schedule.specs.Text.{numbered}
-use Rattle.scfs_machine.specs.History.{Entry, History}
+use Rattle.scfs_model.specs.History.{Entry, History}
 use Rattle.scfs_base.specs.Limits.{carried_limit}
 use Rattle.scfs_net.specs.Queues.{NetState}
-use Rattle.scfs_machine.specs.Clouds.{all_asked, message_of, moved_by, net}
-use Rattle.scfs_machine.specs.Layers.{Row, rows}
-use Rattle.scfs_machine.specs.Runs.{Answers, actual, Happens}
-use Rattle.scfs_machine.specs.States.{Effect, effect}
-use Rattle.scfs_machine.specs.UnitFormat.{under}
+use Rattle.scfs_model.specs.Clouds.{all_asked, message_of, moved_by, net}
+use Rattle.scfs_model.specs.Layers.{Row, rows}
+use Rattle.scfs_model.specs.Runs.{Answers, actual, Happens}
+use Rattle.scfs_model.specs.States.{Effect, effect}
+use Rattle.scfs_model.specs.UnitFormat.{under}
 use Rattle.scfs_world.specs.Happening.{Stands}
 use Rattle.scfs_world.specs.Stepping.{IsTooLarge}
 use Rattle.scfs_world.specs.Whole.{StatesAreWhole}

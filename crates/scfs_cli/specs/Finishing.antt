@@ -3,12 +3,12 @@ use Rattle.scfs_base.specs.Limits.{carried_limit}
 use Rattle.scfs_policy.specs.declared.rank.RankFacts.{RankFacts}
 use Rattle.scfs_schedule.specs.declared.types.Event.{Event}
 use Rattle.scfs_schedule.specs.declared.types.Header.{Header}
-use Rattle.scfs_machine.specs.Clouds.{net, message_of}
-use Rattle.scfs_machine.specs.Format.{Setup}
-use Rattle.scfs_machine.specs.History.{Entry, History, events_then}
-use Rattle.scfs_machine.specs.Layers.{rows}
-use Rattle.scfs_machine.specs.Runs.{Answers, effect_after, made}
-use Rattle.scfs_machine.specs.UnitFormat.{under}
+use Rattle.scfs_model.specs.Clouds.{net, message_of}
+use Rattle.scfs_model.specs.Format.{Setup}
+use Rattle.scfs_model.specs.History.{Entry, History, events_then}
+use Rattle.scfs_model.specs.Layers.{rows}
+use Rattle.scfs_model.specs.Runs.{Answers, effect_after, made}
+use Rattle.scfs_model.specs.UnitFormat.{under}
 use Rattle.scfs_cli.specs.declared.closing.Finish.{Finish}
 use Rattle.scfs_cli.specs.declared.closing.Finish.TheVariants as finishes
 use Rattle.scfs_cli.specs.Playing.{Playing}

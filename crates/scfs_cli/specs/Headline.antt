@@ -5,12 +5,12 @@ use Rattle.scfs_base.specs.Outside.{Takes, Puts, Rose}
 use Rattle.scfs_schedule.specs.declared.types.Header.{Header}
 use Rattle.scfs_schedule.specs.Reading.{read}
 use Rattle.scfs_policy.specs.declared.rank.RankFacts.{RankFacts}
-use Rattle.scfs_machine.specs.Held.{ReadsHeld}
-use Rattle.scfs_machine.specs.Newest.{OpensNewest}
-use Rattle.scfs_machine.specs.History.{History, transcript}
-use Rattle.scfs_machine.specs.Runs.{Run}
-use Rattle.scfs_machine.specs.UnitFormat.{under}
-use Rattle.scfs_machine.specs.Blocks.{NoClash}
+use Rattle.scfs_laws.specs.Held.{ReadsHeld}
+use Rattle.scfs_laws.specs.Newest.{OpensNewest}
+use Rattle.scfs_model.specs.History.{History, transcript}
+use Rattle.scfs_model.specs.Runs.{Run}
+use Rattle.scfs_model.specs.UnitFormat.{under}
+use Rattle.scfs_laws.specs.Blocks.{NoClash}
 use Rattle.scfs_cli.specs.declared.closing.Finish.{Finish}
 use Rattle.scfs_world.specs.Happening.{IsPlayed}
 use Rattle.scfs_cli.specs.Finishing.{EndsWith}

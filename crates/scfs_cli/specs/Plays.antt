@@ -8,12 +8,12 @@ use Rattle.scfs_schedule.specs.Reading.{Reading, IsAtEvents, gives, stopped, wit
 use Rattle.scfs_schedule.specs.Grammar.{IsHeader, IsEvent}
 use Rattle.scfs_schedule.specs.declared.types.Ending.{Ending}
 use Rattle.scfs_schedule.specs.Text.{numbered}
-use Rattle.scfs_machine.specs.History.{Entry, History, transcript}
-use Rattle.scfs_machine.specs.Held.{ReadsHeld}
-use Rattle.scfs_machine.specs.Newest.{OpensNewest}
-use Rattle.scfs_machine.specs.Runs.{due, Run}
-use Rattle.scfs_machine.specs.Blocks.{NoClash}
-use Rattle.scfs_machine.specs.UnitFormat.{under}
+use Rattle.scfs_model.specs.History.{Entry, History, transcript}
+use Rattle.scfs_laws.specs.Held.{ReadsHeld}
+use Rattle.scfs_laws.specs.Newest.{OpensNewest}
+use Rattle.scfs_model.specs.Runs.{due, Run}
+use Rattle.scfs_laws.specs.Blocks.{NoClash}
+use Rattle.scfs_model.specs.UnitFormat.{under}
 use Rattle.scfs_world.specs.Happening.{Stands}
 use Rattle.scfs_cli.specs.declared.play.Played.{Played}
 use Rattle.scfs_cli.specs.declared.play.Played.TheVariants as playeds

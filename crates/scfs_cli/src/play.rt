@@ -9,7 +9,7 @@ ghost use Rattle.scfs_schedule.specs.Reading.{IsAtEvents, IsDrained, gives};
 ghost use Rattle.scfs_schedule.specs.Text.{numbered};
 ghost use Rattle.scfs_schedule.specs.declared.types.Header.{Header};
 ghost use Rattle.scfs_world.specs.Built.{is_built};
-ghost use Rattle.scfs_machine.specs.History.{History};
+ghost use Rattle.scfs_model.specs.History.{History};
 ghost use Rattle.scfs_world.specs.Happening.{IsPlayed};
 ghost use Rattle.scfs_world.specs.Happening.{Stands};
 ghost use Rattle.scfs_world.specs.State.{WorldState};
@@ -22,7 +22,7 @@ use crate::built::finish_at;
 use crate::closing::Finish;
 use crate::edges::write_all;
 use scfs_base::{Bytes, Failed, Memory, Sink};
-use scfs_machine::{no_clash_before, opens_are_newest, reads_are_held};
+use scfs_laws::{no_clash_before, opens_are_newest, reads_are_held};
 use scfs_policy::{RankFacts, RankRule};
 use scfs_schedule::{Ending, Event, Header, Item, Line, Reader, Stop, push_line};
 use scfs_world::{

@@ -13,13 +13,13 @@ use Rattle.scfs_net.specs.declared.messages.Moved.{Moved}
 use Rattle.scfs_net.specs.declared.messages.NetFault.{NetFault}
 use Rattle.scfs_net.specs.declared.messages.NetFault.TheVariants as net_faults
 use Rattle.scfs_net.specs.Queues.{NetState, cloud_at, moved}
-use Rattle.scfs_machine.specs.Clouds.{moved_by, did_message, reply_message, request_message}
-use Rattle.scfs_machine.specs.Format.{Setup}
-use Rattle.scfs_machine.specs.History.{Message, Of_request, Of_answer}
-use Rattle.scfs_machine.specs.Layers.{Row}
-use Rattle.scfs_machine.specs.Lists.{first_of}
-use Rattle.scfs_machine.specs.UnitFormat.{under}
-use Rattle.scfs_machine.specs.States.{State, leaving, answers_by, moves}
+use Rattle.scfs_model.specs.Clouds.{moved_by, did_message, reply_message, request_message}
+use Rattle.scfs_model.specs.Format.{Setup}
+use Rattle.scfs_model.specs.History.{Message, Of_request, Of_answer}
+use Rattle.scfs_model.specs.Layers.{Row}
+use Rattle.scfs_model.specs.Lists.{first_of}
+use Rattle.scfs_model.specs.UnitFormat.{under}
+use Rattle.scfs_model.specs.States.{State, leaving, answers_by, moves}
 use Rattle.scfs_world.specs.Clouds.{Answers, cloud_of, did_of, Moves, moved_of}
 use Rattle.scfs_world.specs.Showing.{moved_lines}
 use Rattle.scfs_world.specs.State.{WorldState, counted}

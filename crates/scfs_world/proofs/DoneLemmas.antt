@@ -8,7 +8,7 @@ use Rattle.scfs_schedule.specs.declared.types.Line.{Line}
 use Rattle.scfs_tuples.specs.Steps.{IsStep}
 use Rattle.scfs_tuples.specs.declared.types.Tuple.{Tuple}
 use Rattle.scfs_net.specs.Queues.{NetState}
-use Rattle.scfs_machine.specs.UnitFormat.{under}
+use Rattle.scfs_model.specs.UnitFormat.{under}
 use Rattle.scfs_agent.specs.State.{AgentState}
 use Rattle.scfs_agent.specs.declared.types.Input.{Input}
 use Rattle.scfs_agent.specs.declared.types.Input.TheVariants as inputs

@@ -1,14 +1,14 @@
 -- What the steps that an agent asks in a reaction are: under rising numbers, each file of one a new one.
 use Rattle.std.proofs.Common.{◌≡◌, ℕ, ◌+◌, ◌*◌, ◌^◌, ◌<◌, ◌≤◌, List, [], ◌∷◌, ◌++◌, Bool, refl, ◌∙◌, arith, le_refl, le_trans}
-use Rattle.scfs_machine.specs.Lists.{without_first}
-use Rattle.scfs_machine.specs.Names.{same_request}
-use Rattle.scfs_machine.specs.Layers.{Row}
-use Rattle.scfs_machine.specs.NameSteps.{Make, Look}
-use Rattle.scfs_machine.specs.Steps.{Step, On_names, On_locks, On_sessions}
-use Rattle.scfs_machine.specs.Agents.{Request}
-use Rattle.scfs_machine.proofs.SoundLists.{Each, each_append, either}
-use Rattle.scfs_machine.proofs.HeldSteps.{each_weaker, asked_append}
-use Rattle.scfs_machine.proofs.HeldSeats.{busy_asked}
+use Rattle.scfs_model.specs.Lists.{without_first}
+use Rattle.scfs_model.specs.Names.{same_request}
+use Rattle.scfs_model.specs.Layers.{Row}
+use Rattle.scfs_model.specs.NameSteps.{Make, Look}
+use Rattle.scfs_model.specs.Steps.{Step, On_names, On_locks, On_sessions}
+use Rattle.scfs_model.specs.Agents.{Request}
+use Rattle.scfs_laws.proofs.SoundLists.{Each, each_append, either}
+use Rattle.scfs_laws.proofs.HeldSteps.{each_weaker, asked_append}
+use Rattle.scfs_laws.proofs.HeldSeats.{busy_asked}
 use Rattle.scfs_world.proofs.DrawnWalk.{Drawn, MakesNone, IsDraws, next_of, make_of}
 
 -- numbers that rise from one to another

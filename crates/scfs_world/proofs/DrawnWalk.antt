@@ -10,25 +10,25 @@ use Rattle.scfs_session.specs.declared.sessions.Session.{Session}
 use Rattle.scfs_session.specs.Open.{session_of, read_answer, after_write, after_truncate}
 use Rattle.scfs_unit.specs.declared.pieces.KeptPiece.{KeptPiece}
 use Rattle.scfs_base.specs.Limits.{handles_limit}
-use Rattle.scfs_machine.specs.Lists.{without_first}
-use Rattle.scfs_machine.specs.Names.{request_no, file_id, same_request}
-use Rattle.scfs_machine.specs.Format.{Setup}
-use Rattle.scfs_machine.specs.Given.{Given}
-use Rattle.scfs_machine.specs.Layers.{Row, rows}
-use Rattle.scfs_machine.specs.Walks.{OrRefusal}
-use Rattle.scfs_machine.specs.NameSteps.{Make, Look}
-use Rattle.scfs_machine.specs.LockSteps.{Unlock}
-use Rattle.scfs_machine.specs.SessionSteps.{Session_step, Open_read, Open_write, Commit, Sight, Session_outcome, Sees, Locks, Completes}
-use Rattle.scfs_machine.specs.Steps.{Step, On_names, On_locks, On_sessions, Outcome, Of_names, Of_locks, Of_sessions}
-use Rattle.scfs_machine.specs.Next.{Next, Goes_on, Asks, Has, Gives_up}
-use Rattle.scfs_machine.specs.Reading.{is_awaited, piece_in, with_piece, read_on, read_turn}
-use Rattle.scfs_machine.specs.Storing.{is_new_ack, with_ack, store_on, store_turn}
-use Rattle.scfs_machine.specs.Agents.{Opening, Waiting, For_step, For_clouds, For_close, Upload, Closed, Request, Agent, Input, Calls, Tells, Hears, Turns, Reaction, next_asked, followed}
-use Rattle.scfs_machine.specs.Calls.{any_names, path_names, unless_refused, opens, close, called, call_of}
-use Rattle.scfs_machine.specs.Opens.{Found, As_empty, On_clouds, found, tallied, sighted, reads, open_hears, open_turns}
-use Rattle.scfs_machine.specs.Closes.{with_storing, asks_puts, stores, upload_hears, upload_turns}
-use Rattle.scfs_machine.specs.Told.{untold, is_pending, told_open, told_commit, told, tells}
-use Rattle.scfs_machine.specs.Reactions.{idle, to_open, to_closed, to_upload, to_work, responded, begun, next_begun, reacted}
+use Rattle.scfs_model.specs.Lists.{without_first}
+use Rattle.scfs_model.specs.Names.{request_no, file_id, same_request}
+use Rattle.scfs_model.specs.Format.{Setup}
+use Rattle.scfs_model.specs.Given.{Given}
+use Rattle.scfs_model.specs.Layers.{Row, rows}
+use Rattle.scfs_model.specs.Walks.{OrRefusal}
+use Rattle.scfs_model.specs.NameSteps.{Make, Look}
+use Rattle.scfs_model.specs.LockSteps.{Unlock}
+use Rattle.scfs_model.specs.SessionSteps.{Session_step, Open_read, Open_write, Commit, Sight, Session_outcome, Sees, Locks, Completes}
+use Rattle.scfs_model.specs.Steps.{Step, On_names, On_locks, On_sessions, Outcome, Of_names, Of_locks, Of_sessions}
+use Rattle.scfs_model.specs.Next.{Next, Goes_on, Asks, Has, Gives_up}
+use Rattle.scfs_model.specs.Reading.{is_awaited, piece_in, with_piece, read_on, read_turn}
+use Rattle.scfs_model.specs.Storing.{is_new_ack, with_ack, store_on, store_turn}
+use Rattle.scfs_model.specs.Agents.{Opening, Waiting, For_step, For_clouds, For_close, Upload, Closed, Request, Agent, Input, Calls, Tells, Hears, Turns, Reaction, next_asked, followed}
+use Rattle.scfs_model.specs.Calls.{any_names, path_names, unless_refused, opens, close, called, call_of}
+use Rattle.scfs_model.specs.Opens.{Found, As_empty, On_clouds, found, tallied, sighted, reads, open_hears, open_turns}
+use Rattle.scfs_model.specs.Closes.{with_storing, asks_puts, stores, upload_hears, upload_turns}
+use Rattle.scfs_model.specs.Told.{untold, is_pending, told_open, told_commit, told, tells}
+use Rattle.scfs_model.specs.Reactions.{idle, to_open, to_closed, to_upload, to_work, responded, begun, next_begun, reacted}
 
 -- what an agent has pending, and how much it drew
 pub record Drawn : Type 0 where

@@ -10,11 +10,11 @@ use Rattle.scfs_schedule.specs.declared.types.Line.TheVariants as lines
 use Rattle.scfs_tuples.specs.declared.types.Tuple.{Tuple}
 use Rattle.scfs_net.specs.declared.messages.Given.{Given}
 use Rattle.scfs_net.specs.Queues.{NetState, cloud_at}
-use Rattle.scfs_machine.specs.Clouds.{moved_by, reply_message, oldest_reply}
-use Rattle.scfs_machine.specs.Layers.{Row, rows}
-use Rattle.scfs_machine.specs.Lists.{first_of, if_some}
-use Rattle.scfs_machine.specs.UnitFormat.{under}
-use Rattle.scfs_machine.specs.States.{Seat, State, leaving, gives}
+use Rattle.scfs_model.specs.Clouds.{moved_by, reply_message, oldest_reply}
+use Rattle.scfs_model.specs.Layers.{Row, rows}
+use Rattle.scfs_model.specs.Lists.{first_of, if_some}
+use Rattle.scfs_model.specs.UnitFormat.{under}
+use Rattle.scfs_model.specs.States.{Seat, State, leaving, gives}
 use Rattle.scfs_world.specs.Seating.{Around, answer_at, SeatSteps, SeatPasses, IsReady, KeepsReady}
 use Rattle.scfs_world.specs.Shows.{ShowsSeat}
 use Rattle.scfs_world.specs.State.{SeatState, WorldState, counted}

@@ -9,16 +9,16 @@ use Rattle.scfs_tuples.specs.declared.types.Tuple.{Tuple}
 use Rattle.scfs_net.specs.Queues.{NetState}
 use Rattle.scfs_anchor.specs.Holding.{Holds}
 use Rattle.scfs_anchor.proofs.HoldLemmas.{holds_on}
-use Rattle.scfs_machine.specs.UnitFormat.{under}
-use Rattle.scfs_machine.specs.Clouds.{all_asked}
-use Rattle.scfs_machine.specs.Layers.{Row, rows}
-use Rattle.scfs_machine.specs.Runs.{Answers}
-use Rattle.scfs_machine.specs.Sayings.{said_by}
-use Rattle.scfs_machine.specs.Agents as machine
-use Rattle.scfs_machine.specs.Agents.{Sent, Reaction}
-use Rattle.scfs_machine.specs.Reactions.{reacted}
-use Rattle.scfs_machine.specs.States.{Seat, State, Effect, did, comes, request_line}
-use Rattle.scfs_machine.proofs.HeldSteps.{each_append}
+use Rattle.scfs_model.specs.UnitFormat.{under}
+use Rattle.scfs_model.specs.Clouds.{all_asked}
+use Rattle.scfs_model.specs.Layers.{Row, rows}
+use Rattle.scfs_model.specs.Runs.{Answers}
+use Rattle.scfs_model.specs.Sayings.{said_by}
+use Rattle.scfs_model.specs.Agents as machine
+use Rattle.scfs_model.specs.Agents.{Sent, Reaction}
+use Rattle.scfs_model.specs.Reactions.{reacted}
+use Rattle.scfs_model.specs.States.{Seat, State, Effect, did, comes, request_line}
+use Rattle.scfs_laws.proofs.HeldSteps.{each_append}
 use Rattle.scfs_agent.specs.Reacting.{DoesAs, DoesRanked, reaction_of}
 use Rattle.scfs_agent.specs.State.{AgentState}
 use Rattle.scfs_agent.specs.declared.types.Input.{Input}

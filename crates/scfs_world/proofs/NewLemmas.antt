@@ -9,10 +9,10 @@ use Rattle.scfs_schedule.specs.declared.types.Header.{Header}
 use Rattle.scfs_tuples.specs.Steps.{IsStep}
 use Rattle.scfs_net.specs.Queues.{new_net, new_cloud}
 use Rattle.scfs_anchor.proofs.HoldLemmas.{empty_holds}
-use Rattle.scfs_machine.specs.Agents.{first_agent}
-use Rattle.scfs_machine.specs.Lists.{below}
-use Rattle.scfs_machine.specs.States.{first_seat}
-use Rattle.scfs_machine.specs.UnitFormat.{under}
+use Rattle.scfs_model.specs.Agents.{first_agent}
+use Rattle.scfs_model.specs.Lists.{below}
+use Rattle.scfs_model.specs.States.{first_seat}
+use Rattle.scfs_model.specs.UnitFormat.{under}
 use Rattle.scfs_world.specs.Happening.{Stands}
 use Rattle.scfs_world.specs.Shows.{Together, ShowsSeat}
 use Rattle.scfs_world.specs.State.{SeatState, WorldState}

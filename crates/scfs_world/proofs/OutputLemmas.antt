@@ -4,12 +4,12 @@ use Rattle.std.proofs.lemmas.List.Elements.{All-weaker, All-append, All-head, Al
 use Rattle.scfs_schedule.specs.declared.types.Line.{Line}
 use Rattle.scfs_tuples.specs.Steps.{IsStep}
 use Rattle.scfs_net.specs.Queues.{NetState, asked, cloud_at}
-use Rattle.scfs_machine.specs.Clouds.{asked_by, all_asked}
-use Rattle.scfs_machine.specs.Format.{Setup}
-use Rattle.scfs_machine.specs.Layers.{Row}
-use Rattle.scfs_machine.specs.Sayings.{Saying, said_by}
-use Rattle.scfs_machine.specs.Agents.{Request, Sent, Reaction}
-use Rattle.scfs_machine.specs.States.{request_line}
+use Rattle.scfs_model.specs.Clouds.{asked_by, all_asked}
+use Rattle.scfs_model.specs.Format.{Setup}
+use Rattle.scfs_model.specs.Layers.{Row}
+use Rattle.scfs_model.specs.Sayings.{Saying, said_by}
+use Rattle.scfs_model.specs.Agents.{Request, Sent, Reaction}
+use Rattle.scfs_model.specs.States.{request_line}
 use Rattle.scfs_agent.specs.Keeping.{FitsOutput}
 use Rattle.scfs_agent.specs.Outputs.{said_outputs, step_output, sent_outputs, outputs_of}
 use Rattle.scfs_agent.specs.State.{AgentState}

@@ -7,14 +7,14 @@ use Rattle.scfs_schedule.specs.declared.types.Event.{Event}
 use Rattle.scfs_schedule.specs.declared.types.Header.{Header}
 use Rattle.scfs_schedule.specs.declared.types.Line.{Line}
 use Rattle.scfs_net.specs.Queues.{NetState}
-use Rattle.scfs_machine.specs.Clouds.{all_asked, message_of, moved_by, net}
-use Rattle.scfs_machine.specs.History.{Entry}
-use Rattle.scfs_machine.specs.Laws.{BringsBytes}
-use Rattle.scfs_machine.specs.Layers.{Row, rows}
-use Rattle.scfs_machine.specs.Runs.{actual, effect_after, Answers}
-use Rattle.scfs_machine.specs.States.{State, Effect, effect}
-use Rattle.scfs_machine.specs.UnitFormat.{under}
-use Rattle.scfs_machine.proofs.SoundLaw.{runs_without_clash}
+use Rattle.scfs_model.specs.Clouds.{all_asked, message_of, moved_by, net}
+use Rattle.scfs_model.specs.History.{Entry}
+use Rattle.scfs_laws.specs.Laws.{BringsBytes}
+use Rattle.scfs_model.specs.Layers.{Row, rows}
+use Rattle.scfs_model.specs.Runs.{actual, effect_after, Answers}
+use Rattle.scfs_model.specs.States.{State, Effect, effect}
+use Rattle.scfs_model.specs.UnitFormat.{under}
+use Rattle.scfs_laws.proofs.SoundLaw.{runs_without_clash}
 use Rattle.scfs_world.specs.Happening.{IsPlayed, PlaysOn}
 use Rattle.scfs_world.specs.Shows.{Shows}
 use Rattle.scfs_world.specs.State.{WorldState}

@@ -20,16 +20,16 @@ use Rattle.scfs_anchor.specs.Holding.{Holds, IsFresh, ServesAlike}
 use Rattle.scfs_anchor.specs.StepReplies.{IsReplyTo}
 use Rattle.scfs_anchor.specs.StepPlans.{step_on_tuples}
 use Rattle.scfs_anchor.proofs.HoldLemmas.{holds_on, steps_serve_alike}
-use Rattle.scfs_machine.specs.UnitFormat.{under}
-use Rattle.scfs_machine.specs.Layers.{Row, rows}
-use Rattle.scfs_machine.specs.Lists.{moved_back}
-use Rattle.scfs_machine.specs.Tree.{live}
-use Rattle.scfs_machine.specs.Clouds.{all_asked}
-use Rattle.scfs_machine.specs.Runs.{Answers}
-use Rattle.scfs_machine.specs.Steps.{Served, served}
-use Rattle.scfs_machine.specs.Agents.{Request, Agent, Calls, Tells, Hears, Turns}
-use Rattle.scfs_machine.specs.States.{Reply, Seat, State, skips, serves, postpones, tells, sum_of}
-use Rattle.scfs_machine.proofs.SoundLists.{each_moved}
+use Rattle.scfs_model.specs.UnitFormat.{under}
+use Rattle.scfs_model.specs.Layers.{Row, rows}
+use Rattle.scfs_model.specs.Lists.{moved_back}
+use Rattle.scfs_model.specs.Tree.{live}
+use Rattle.scfs_model.specs.Clouds.{all_asked}
+use Rattle.scfs_model.specs.Runs.{Answers}
+use Rattle.scfs_model.specs.Steps.{Served, served}
+use Rattle.scfs_model.specs.Agents.{Request, Agent, Calls, Tells, Hears, Turns}
+use Rattle.scfs_model.specs.States.{Reply, Seat, State, skips, serves, postpones, tells, sum_of}
+use Rattle.scfs_laws.proofs.SoundLists.{each_moved}
 use Rattle.scfs_agent.specs.Reacting.{DoesRanked, Reacts}
 use Rattle.scfs_agent.specs.State.{AgentState}
 use Rattle.scfs_agent.specs.Telling.{IsTold, IsIts, pending_step, outcome_step}

@@ -6,15 +6,15 @@ use Rattle.scfs_schedule.specs.declared.types.Kind.{Kind}
 use Rattle.scfs_schedule.specs.declared.types.Kind.TheVariants as kinds
 use Rattle.scfs_schedule.specs.declared.types.Refusal.{Refusal}
 use Rattle.scfs_schedule.specs.declared.types.Refusal.TheVariants as refusals
-use Rattle.scfs_machine.specs.Lists.{without_first}
-use Rattle.scfs_machine.specs.Names.{root_id}
-use Rattle.scfs_machine.specs.Layers.{Row, rows}
-use Rattle.scfs_machine.specs.Tree.{Node, Lock, Tree, node_in, is_node_at, session_lock}
-use Rattle.scfs_machine.specs.Walks.{OrRefusal, by_kind, from_node, from_directory, walk, file_at, free_file_at, on_ok}
-use Rattle.scfs_machine.specs.NameSteps.{Name_step, Make, Look, Name_outcome, Shows, new_file, made, name_outcome, nodes_after}
-use Rattle.scfs_machine.specs.SessionSteps.{Open_read, Open_write, Commit, Session_outcome, Sees, Locks, Completes, still_held, sight_of, new_lock, with_version, session_after}
-use Rattle.scfs_machine.specs.Steps.{Step, On_names, On_locks, On_sessions, after_ok, served}
-use Rattle.scfs_machine.proofs.SoundLists.{Each, each_append, each_find}
+use Rattle.scfs_model.specs.Lists.{without_first}
+use Rattle.scfs_model.specs.Names.{root_id}
+use Rattle.scfs_model.specs.Layers.{Row, rows}
+use Rattle.scfs_model.specs.Tree.{Node, Lock, Tree, node_in, is_node_at, session_lock}
+use Rattle.scfs_model.specs.Walks.{OrRefusal, by_kind, from_node, from_directory, walk, file_at, free_file_at, on_ok}
+use Rattle.scfs_model.specs.NameSteps.{Name_step, Make, Look, Name_outcome, Shows, new_file, made, name_outcome, nodes_after}
+use Rattle.scfs_model.specs.SessionSteps.{Open_read, Open_write, Commit, Session_outcome, Sees, Locks, Completes, still_held, sight_of, new_lock, with_version, session_after}
+use Rattle.scfs_model.specs.Steps.{Step, On_names, On_locks, On_sessions, after_ok, served}
+use Rattle.scfs_laws.proofs.SoundLists.{Each, each_append, each_find}
 use Rattle.scfs_world.proofs.DrawnSteps.{each_without}
 
 -- what a walk comes to is a refusal, or what the last step of it comes to

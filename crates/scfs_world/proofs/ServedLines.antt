@@ -16,13 +16,13 @@ use Rattle.scfs_anchor.specs.Fields.{number_at}
 use Rattle.scfs_anchor.specs.Replies.{ShowsSight, refusal_in}
 use Rattle.scfs_anchor.specs.StepPlans.{step_on_tuples}
 use Rattle.scfs_anchor.specs.StepReplies.{IsDone, IsRefusal, HasTaken, sight_said, IsReplyTo}
-use Rattle.scfs_machine.specs.Layers.{Row, rows}
-use Rattle.scfs_machine.specs.Tree.{Node, Lock, Tree, session_lock, node_at}
-use Rattle.scfs_machine.specs.Walks.{OrRefusal, file_at, free_file_at, on_ok}
-use Rattle.scfs_machine.specs.NameSteps.{Name_step, Make, Look, Name_outcome, Makes, Shows, name_outcome}
-use Rattle.scfs_machine.specs.LockSteps.{Unlock}
-use Rattle.scfs_machine.specs.SessionSteps.{Open_read, Open_write, Commit, Sight, Sees, Locks, Completes, still_held, sight_of, new_lock, with_version}
-use Rattle.scfs_machine.specs.Steps.{Step, On_names, On_locks, On_sessions, Of_names, Of_sessions, served, served_line}
+use Rattle.scfs_model.specs.Layers.{Row, rows}
+use Rattle.scfs_model.specs.Tree.{Node, Lock, Tree, session_lock, node_at}
+use Rattle.scfs_model.specs.Walks.{OrRefusal, file_at, free_file_at, on_ok}
+use Rattle.scfs_model.specs.NameSteps.{Name_step, Make, Look, Name_outcome, Makes, Shows, name_outcome}
+use Rattle.scfs_model.specs.LockSteps.{Unlock}
+use Rattle.scfs_model.specs.SessionSteps.{Open_read, Open_write, Commit, Sight, Sees, Locks, Completes, still_held, sight_of, new_lock, with_version}
+use Rattle.scfs_model.specs.Steps.{Step, On_names, On_locks, On_sessions, Of_names, Of_sessions, served, served_line}
 use Rattle.scfs_world.specs.Showing.{line_of, line_by, file_shown}
 
 -- the last but one field

@@ -4,16 +4,16 @@ use Rattle.std.proofs.lemmas.Bool.Decides.{nat_tests}
 use Rattle.scfs_base.specs.declared.naming.RequestNo.{RequestNo}
 use Rattle.scfs_anchor.specs.Tree.{Each}
 use Rattle.scfs_anchor.specs.Holding.{IsFresh}
-use Rattle.scfs_machine.specs.Names.{same_request}
-use Rattle.scfs_machine.specs.Layers.{Row}
-use Rattle.scfs_machine.specs.Tree.{Node}
-use Rattle.scfs_machine.specs.NameSteps.{Make, Look}
-use Rattle.scfs_machine.specs.Steps.{Step, On_names, On_locks, On_sessions}
-use Rattle.scfs_machine.specs.Agents.{Request}
-use Rattle.scfs_machine.specs.States.{Seat}
-use Rattle.scfs_machine.specs.Runs.{actual}
-use Rattle.scfs_machine.specs.UnitFormat.{under}
-use Rattle.scfs_machine.proofs.HeldSteps.{each_weaker}
+use Rattle.scfs_model.specs.Names.{same_request}
+use Rattle.scfs_model.specs.Layers.{Row}
+use Rattle.scfs_model.specs.Tree.{Node}
+use Rattle.scfs_model.specs.NameSteps.{Make, Look}
+use Rattle.scfs_model.specs.Steps.{Step, On_names, On_locks, On_sessions}
+use Rattle.scfs_model.specs.Agents.{Request}
+use Rattle.scfs_model.specs.States.{Seat}
+use Rattle.scfs_model.specs.Runs.{actual}
+use Rattle.scfs_model.specs.UnitFormat.{under}
+use Rattle.scfs_laws.proofs.HeldSteps.{each_weaker}
 use Rattle.scfs_agent.specs.Telling.{pending_step, is_numbered, outcome_step, IsIts}
 use Rattle.scfs_world.specs.Happening.{StandingAreShown}
 use Rattle.scfs_world.specs.Whole.{IsWholeSeat, StatesAreWhole}

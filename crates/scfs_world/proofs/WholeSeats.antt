@@ -1,16 +1,16 @@
 -- What is known of a seat, by what its agent drew, and that it stays known.
 use Rattle.std.proofs.Common.{◌≡◌, ℕ, suc, ◌+◌, ◌*◌, ◌^◌, ◌<◌, ◌≤◌, List, [], ◌∷◌, ◌++◌, refl, sym, arith, subst, le_trans}
 use Rattle.scfs_base.specs.declared.naming.RequestNo.{RequestNo}
-use Rattle.scfs_machine.specs.Lists.{moved_back}
-use Rattle.scfs_machine.specs.Layers.{Row, rows}
-use Rattle.scfs_machine.specs.Tree.{Node, Tree}
-use Rattle.scfs_machine.specs.NameSteps.{Make, Look}
-use Rattle.scfs_machine.specs.Steps.{Step, On_names, On_locks, On_sessions, Outcome, served}
-use Rattle.scfs_machine.specs.Agents.{Request, Reaction}
-use Rattle.scfs_machine.specs.States.{Reply, Seat}
-use Rattle.scfs_machine.proofs.SoundLists.{Each, each_append, each_moved}
-use Rattle.scfs_machine.proofs.HeldSteps.{each_weaker}
-use Rattle.scfs_machine.proofs.HeldSeats.{busy, busy_asked, step_of}
+use Rattle.scfs_model.specs.Lists.{moved_back}
+use Rattle.scfs_model.specs.Layers.{Row, rows}
+use Rattle.scfs_model.specs.Tree.{Node, Tree}
+use Rattle.scfs_model.specs.NameSteps.{Make, Look}
+use Rattle.scfs_model.specs.Steps.{Step, On_names, On_locks, On_sessions, Outcome, served}
+use Rattle.scfs_model.specs.Agents.{Request, Reaction}
+use Rattle.scfs_model.specs.States.{Reply, Seat}
+use Rattle.scfs_laws.proofs.SoundLists.{Each, each_append, each_moved}
+use Rattle.scfs_laws.proofs.HeldSteps.{each_weaker}
+use Rattle.scfs_laws.proofs.HeldSeats.{busy, busy_asked, step_of}
 use Rattle.scfs_world.proofs.DrawnWalk.{drawn_of}
 use Rattle.scfs_world.proofs.DrawnSteps.{Rising, rising_all, MakesIn, makes_wider, base_of, Asks}
 use Rattle.scfs_world.proofs.ServedIds.{OfMade, ids_served}

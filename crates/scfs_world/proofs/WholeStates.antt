@@ -2,23 +2,23 @@
 use Rattle.std.proofs.Common.{◌≡◌, ◌⊎◌, inl, inr, ℕ, zero, suc, ◌^◌, ◌+◌, ◌≤◌, List, [], ◌∷◌, ◌++◌, replicate, refl, sym, arith, subst, Option, Some, None, slice_get, slice_set, length}
 use Rattle.scfs_schedule.specs.declared.types.Line.{Line}
 use Rattle.scfs_schedule.specs.declared.types.Line.TheVariants as lines
-use Rattle.scfs_machine.specs.Lists.{if_some}
-use Rattle.scfs_machine.specs.Format.{Setup}
-use Rattle.scfs_machine.specs.Given.{Given, given_of}
-use Rattle.scfs_machine.specs.History.{Message, Of_request, Of_answer, History}
-use Rattle.scfs_machine.specs.Layers.{Row, rows}
-use Rattle.scfs_machine.specs.Tree.{live}
-use Rattle.scfs_machine.specs.Steps.{Step, On_names, On_locks, On_sessions, served}
-use Rattle.scfs_machine.specs.Agents.{Request, Input, Calls, Tells, Hears, Turns, Reaction}
-use Rattle.scfs_machine.specs.Reactions.{reacted}
-use Rattle.scfs_machine.specs.Events.{Call_comes, Turn_comes, Step_served, Step_postponed, Reply_told, Request_answered, Answer_given, Message_moved, Place, Agent_has, Space_has, Cloud_has, Nowhere, place_of}
-use Rattle.scfs_machine.specs.States.{Reply, Seat, State, Effect, first_seat, leaving, with_seat, at_seat, comes, serves, postpones, tells, at_place, answers_by, moves, sum_of}
-use Rattle.scfs_machine.specs.Runs.{actual, Happens}
-use Rattle.scfs_machine.proofs.SoundLists.{Each}
-use Rattle.scfs_machine.proofs.HeldSeats.{busy_asked, busy_replied, step_of}
-use Rattle.scfs_machine.proofs.HeldSteps.{asked_append}
-use Rattle.scfs_machine.proofs.HeldSpace.{get_cases}
-use Rattle.scfs_machine.proofs.HeldReads.{seen_after}
+use Rattle.scfs_model.specs.Lists.{if_some}
+use Rattle.scfs_model.specs.Format.{Setup}
+use Rattle.scfs_model.specs.Given.{Given, given_of}
+use Rattle.scfs_model.specs.History.{Message, Of_request, Of_answer, History}
+use Rattle.scfs_model.specs.Layers.{Row, rows}
+use Rattle.scfs_model.specs.Tree.{live}
+use Rattle.scfs_model.specs.Steps.{Step, On_names, On_locks, On_sessions, served}
+use Rattle.scfs_model.specs.Agents.{Request, Input, Calls, Tells, Hears, Turns, Reaction}
+use Rattle.scfs_model.specs.Reactions.{reacted}
+use Rattle.scfs_model.specs.Events.{Call_comes, Turn_comes, Step_served, Step_postponed, Reply_told, Request_answered, Answer_given, Message_moved, Place, Agent_has, Space_has, Cloud_has, Nowhere, place_of}
+use Rattle.scfs_model.specs.States.{Reply, Seat, State, Effect, first_seat, leaving, with_seat, at_seat, comes, serves, postpones, tells, at_place, answers_by, moves, sum_of}
+use Rattle.scfs_model.specs.Runs.{actual, Happens}
+use Rattle.scfs_laws.proofs.SoundLists.{Each}
+use Rattle.scfs_laws.proofs.HeldSeats.{busy_asked, busy_replied, step_of}
+use Rattle.scfs_laws.proofs.HeldSteps.{asked_append}
+use Rattle.scfs_laws.proofs.HeldSpace.{get_cases}
+use Rattle.scfs_laws.proofs.HeldReads.{seen_after}
 use Rattle.scfs_world.proofs.DrawnWalk.{on_reacted}
 use Rattle.scfs_world.proofs.DrawnSteps.{Asks, asks_draws}
 use Rattle.scfs_world.proofs.WholeSeats.{SeatKept, seat_later, seat_postponed, seat_reacted, seat_served, other_served}

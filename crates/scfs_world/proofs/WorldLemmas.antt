@@ -11,14 +11,14 @@ use Rattle.scfs_schedule.specs.declared.types.Line.{Line}
 use Rattle.scfs_tuples.specs.declared.types.Tuple.{Tuple}
 use Rattle.scfs_net.specs.Queues.{NetState}
 use Rattle.scfs_anchor.proofs.HoldLemmas.{holds_on}
-use Rattle.scfs_machine.specs.Lists.{if_some}
-use Rattle.scfs_machine.specs.UnitFormat.{under}
-use Rattle.scfs_machine.specs.Clouds.{all_asked, moved_by, message_of}
-use Rattle.scfs_machine.specs.Events.{Call_comes, Turn_comes, Step_served, Step_postponed, Reply_told}
-use Rattle.scfs_machine.specs.History.{Message}
-use Rattle.scfs_machine.specs.Layers.{Row, rows}
-use Rattle.scfs_machine.specs.Runs.{Answers}
-use Rattle.scfs_machine.specs.States.{Seat, State, Effect, effect, leaving, at_seat, at_agent, at_space}
+use Rattle.scfs_model.specs.Lists.{if_some}
+use Rattle.scfs_model.specs.UnitFormat.{under}
+use Rattle.scfs_model.specs.Clouds.{all_asked, moved_by, message_of}
+use Rattle.scfs_model.specs.Events.{Call_comes, Turn_comes, Step_served, Step_postponed, Reply_told}
+use Rattle.scfs_model.specs.History.{Message}
+use Rattle.scfs_model.specs.Layers.{Row, rows}
+use Rattle.scfs_model.specs.Runs.{Answers}
+use Rattle.scfs_model.specs.States.{Seat, State, Effect, effect, leaving, at_seat, at_agent, at_space}
 use Rattle.scfs_world.specs.Seating.{Around, At_seat, IsAt, Leaves, SeatSteps, SeatPasses, IsShownAt, IsReady, KeepsReady, IsAtSeat, event_at}
 use Rattle.scfs_world.specs.Shows.{Together, ShowsSeat, Shows}
 use Rattle.scfs_world.specs.State.{SeatState, WorldState, counted}

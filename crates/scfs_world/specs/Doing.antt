@@ -8,9 +8,9 @@ use Rattle.scfs_schedule.specs.declared.types.Line.TheVariants as lines
 use Rattle.scfs_tuples.specs.After.{reply_of, left_after}
 use Rattle.scfs_tuples.specs.declared.types.Tuple.{Tuple}
 use Rattle.scfs_net.specs.Queues.{NetState, net_asked}
-use Rattle.scfs_machine.specs.Format.{Setup}
-use Rattle.scfs_machine.specs.States.{request_line}
-use Rattle.scfs_machine.specs.UnitFormat.{under}
+use Rattle.scfs_model.specs.Format.{Setup}
+use Rattle.scfs_model.specs.States.{request_line}
+use Rattle.scfs_model.specs.UnitFormat.{under}
 use Rattle.scfs_agent.specs.Keeping.{FitsOutput}
 use Rattle.scfs_agent.specs.Reacting.{FitsInput, Reacts}
 use Rattle.scfs_agent.specs.State.{AgentState}

@@ -4,12 +4,12 @@ use Rattle.scfs_policy.specs.declared.rank.RankFacts.{RankFacts}
 use Rattle.scfs_schedule.specs.declared.types.Event.{Event}
 use Rattle.scfs_schedule.specs.declared.types.Header.{Header}
 use Rattle.scfs_schedule.specs.declared.types.Line.{Line}
-use Rattle.scfs_machine.specs.Blocks.{NoClash}
-use Rattle.scfs_machine.specs.Clouds.{net, IsServed}
-use Rattle.scfs_machine.specs.History.{Entry, History}
-use Rattle.scfs_machine.specs.Laws.{AreEvents}
-use Rattle.scfs_machine.specs.Runs.{actual, due, Happens, IsRanked}
-use Rattle.scfs_machine.specs.UnitFormat.{under}
+use Rattle.scfs_laws.specs.Blocks.{NoClash}
+use Rattle.scfs_model.specs.Clouds.{net, IsServed}
+use Rattle.scfs_model.specs.History.{Entry, History}
+use Rattle.scfs_laws.specs.Laws.{AreEvents}
+use Rattle.scfs_model.specs.Runs.{actual, due, Happens, IsRanked}
+use Rattle.scfs_model.specs.UnitFormat.{under}
 use Rattle.scfs_world.specs.Shows.{Shows}
 use Rattle.scfs_world.specs.State.{WorldState}
 use Rattle.scfs_world.specs.Stepping.{IsShown}

@@ -11,13 +11,13 @@ use Rattle.scfs_schedule.specs.declared.types.Line.TheVariants as lines
 use Rattle.scfs_tuples.specs.declared.types.Tuple.{Tuple}
 use Rattle.scfs_net.specs.Queues.{NetState}
 use Rattle.scfs_anchor.specs.Holding.{Holds}
-use Rattle.scfs_machine.specs.UnitFormat.{under}
-use Rattle.scfs_machine.specs.Clouds.{all_asked}
-use Rattle.scfs_machine.specs.Events.{Place, Agent_has, Space_has, Cloud_has, Nowhere, place_of}
-use Rattle.scfs_machine.specs.Layers.{Row, rows}
-use Rattle.scfs_machine.specs.Runs.{Answers}
-use Rattle.scfs_machine.specs.Agents.{Hears}
-use Rattle.scfs_machine.specs.States.{Seat, State, Effect, leaving, comes, at_agent, at_space, sum_of}
+use Rattle.scfs_model.specs.UnitFormat.{under}
+use Rattle.scfs_model.specs.Clouds.{all_asked}
+use Rattle.scfs_model.specs.Events.{Place, Agent_has, Space_has, Cloud_has, Nowhere, place_of}
+use Rattle.scfs_model.specs.Layers.{Row, rows}
+use Rattle.scfs_model.specs.Runs.{Answers}
+use Rattle.scfs_model.specs.Agents.{Hears}
+use Rattle.scfs_model.specs.States.{Seat, State, Effect, leaving, comes, at_agent, at_space, sum_of}
 use Rattle.scfs_world.specs.Shows.{ShowsSeat}
 use Rattle.scfs_world.specs.State.{SeatState}
 use Rattle.scfs_world.specs.Stepping.{IsSeat}

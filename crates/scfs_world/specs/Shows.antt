@@ -4,9 +4,9 @@ use Rattle.scfs_anchor.specs.Tree.{Each}
 use Rattle.scfs_anchor.specs.Holding.{Holds, IsRequest, IsAskable}
 use Rattle.scfs_anchor.specs.StepPlans.{step_on_tuples}
 use Rattle.scfs_anchor.specs.StepReplies.{IsReplyTo, FitsOutcome}
-use Rattle.scfs_machine.specs.Layers.{Row}
-use Rattle.scfs_machine.specs.Agents.{Request}
-use Rattle.scfs_machine.specs.States.{Reply, Seat, State}
+use Rattle.scfs_model.specs.Layers.{Row}
+use Rattle.scfs_model.specs.Agents.{Request}
+use Rattle.scfs_model.specs.States.{Reply, Seat, State}
 use Rattle.scfs_world.specs.State.{SeatState, WorldState}
 use Rattle.scfs_world.specs.declared.seat.StepAsked.{StepAsked}
 use Rattle.scfs_world.specs.declared.seat.StepReply.{StepReply}

@@ -6,11 +6,11 @@ use Rattle.scfs_schedule.specs.declared.types.Event.{Event}
 use Rattle.scfs_schedule.specs.declared.types.Line.{Line}
 use Rattle.scfs_tuples.specs.Steps.{IsStep}
 use Rattle.scfs_net.specs.Queues.{NetState}
-use Rattle.scfs_machine.specs.UnitFormat.{under}
-use Rattle.scfs_machine.specs.Clouds.{all_asked, message_of, moved_by}
-use Rattle.scfs_machine.specs.Layers.{Row, rows}
-use Rattle.scfs_machine.specs.Runs.{Answers}
-use Rattle.scfs_machine.specs.States.{State, Effect, effect}
+use Rattle.scfs_model.specs.UnitFormat.{under}
+use Rattle.scfs_model.specs.Clouds.{all_asked, message_of, moved_by}
+use Rattle.scfs_model.specs.Layers.{Row, rows}
+use Rattle.scfs_model.specs.Runs.{Answers}
+use Rattle.scfs_model.specs.States.{State, Effect, effect}
 use Rattle.scfs_world.specs.Shows.{Shows}
 use Rattle.scfs_world.specs.State.{SeatState, WorldState, counted}
 use Rattle.scfs_world.specs.Whole.{IsWhole}

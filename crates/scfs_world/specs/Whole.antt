@@ -2,13 +2,13 @@ use Rattle.std.specs.Prelude.{◌≡◌, ◌≢◌, ◌^◌, ◌≤◌, List, le
 use Rattle.scfs_schedule.specs.declared.types.Header.{Header}
 use Rattle.scfs_anchor.specs.Tree.{Each}
 use Rattle.scfs_anchor.specs.Holding.{IsFresh}
-use Rattle.scfs_machine.specs.UnitFormat.{under}
-use Rattle.scfs_machine.specs.History.{History}
-use Rattle.scfs_machine.specs.Layers.{Row}
-use Rattle.scfs_machine.specs.Tree.{Node}
-use Rattle.scfs_machine.specs.Agents.{Request}
-use Rattle.scfs_machine.specs.States.{Reply, Seat, State}
-use Rattle.scfs_machine.specs.Runs.{actual, Happens}
+use Rattle.scfs_model.specs.UnitFormat.{under}
+use Rattle.scfs_model.specs.History.{History}
+use Rattle.scfs_model.specs.Layers.{Row}
+use Rattle.scfs_model.specs.Tree.{Node}
+use Rattle.scfs_model.specs.Agents.{Request}
+use Rattle.scfs_model.specs.States.{Reply, Seat, State}
+use Rattle.scfs_model.specs.Runs.{actual, Happens}
 use Rattle.scfs_agent.specs.Telling.{pending_step, outcome_step, IsIts}
 
 -- What holds of every state that a history leaves, by what agents draw: their numbers and ids are each their own.

@@ -1,6 +1,6 @@
 ghost use Rattle.std.specs.Prelude.{◌≡◌, ◌≤◌, length};
 ghost use Rattle.scfs_base.specs.Limits.{carried_limit};
-ghost use Rattle.scfs_machine.specs.Clouds.{moved_by};
+ghost use Rattle.scfs_model.specs.Clouds.{moved_by};
 ghost use Rattle.scfs_net.specs.Queues.{LeadsTo};
 ghost use Rattle.scfs_world.specs.Clouds.{cloud_of, did_of, moved_of, Answers, Moves};
 

@@ -1,6 +1,6 @@
 ghost use Rattle.std.specs.Prelude.{◌≡◌, ◌+◌, ◌<◌, ◌≤◌, ◌++◌, [], ◌∷◌, length, All, IfErr, OnOk};
 ghost use Rattle.scfs_base.specs.Limits.{carried_limit};
-ghost use Rattle.scfs_machine.specs.UnitFormat.{under};
+ghost use Rattle.scfs_model.specs.UnitFormat.{under};
 ghost use Rattle.scfs_schedule.specs.declared.types.Header.{Header};
 ghost use Rattle.scfs_world.specs.Doing.{AsksAmong, line_out, lines_out, net_by, net_with, step_out, steps_out};
 ghost use Rattle.scfs_world.specs.declared.fault.StepFault.TheVariants as StepFault;

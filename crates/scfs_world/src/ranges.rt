@@ -1,7 +1,7 @@
 //! What the types of calls and events say of their numbers; the functions only carry these facts.
 
 ghost use Rattle.scfs_gf256.specs.Polynomials.{AreBytes};
-ghost use Rattle.scfs_machine.specs.Laws.{BringsBytes, WritesBytes};
+ghost use Rattle.scfs_laws.specs.Laws.{BringsBytes, WritesBytes};
 
 use scfs_schedule::{Call, Event};
 

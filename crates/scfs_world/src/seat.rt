@@ -1,7 +1,7 @@
 ghost use Rattle.std.specs.Prelude.{◌≡◌, ◌≢◌, ◌^◌, ◌+◌, ◌*◌, ◌<◌, ◌≤◌, ◌↔◌, ℕ, List, [], length, true, All, IfErr, IfOk, IsTrue, OnOk, is_some};
 ghost use Rattle.scfs_base.specs.Limits.{carried_limit};
-ghost use Rattle.scfs_machine.specs.Agents.{first_agent};
-ghost use Rattle.scfs_machine.specs.UnitFormat.{under};
+ghost use Rattle.scfs_model.specs.Agents.{first_agent};
+ghost use Rattle.scfs_model.specs.UnitFormat.{under};
 ghost use Rattle.scfs_policy.specs.Rank.{IsRankRule};
 ghost use Rattle.scfs_schedule.specs.Grammar.{IsHeader};
 ghost use Rattle.scfs_tuples.specs.Steps.{IsStep};

@@ -1,8 +1,8 @@
 ghost use Rattle.std.specs.Prelude.{◌≡◌, [], ◌∷◌, IfOk};
-ghost use Rattle.scfs_machine.specs.Clouds.{did_message};
-ghost use Rattle.scfs_machine.specs.Layers.{Row};
-ghost use Rattle.scfs_machine.specs.States.{State, answers_by, request_line, sum_of};
-ghost use Rattle.scfs_machine.specs.UnitFormat.{under};
+ghost use Rattle.scfs_model.specs.Clouds.{did_message};
+ghost use Rattle.scfs_model.specs.Layers.{Row};
+ghost use Rattle.scfs_model.specs.States.{State, answers_by, request_line, sum_of};
+ghost use Rattle.scfs_model.specs.UnitFormat.{under};
 ghost use Rattle.scfs_schedule.specs.declared.types.Header.{Header};
 ghost use Rattle.scfs_schedule.specs.declared.types.Line.TheVariants as lines;
 ghost use Rattle.scfs_world.specs.Showing.{moved_lines};

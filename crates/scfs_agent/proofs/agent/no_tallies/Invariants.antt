@@ -1,5 +1,5 @@
 use Rattle.std.proofs.Common.{◌≡◌, map}
-use Rattle.scfs_machine.specs.Lists.{below}
+use Rattle.scfs_model.specs.Lists.{below}
 use Rattle.scfs_agent.proofs.CloudLists.{record_of}
 use Rattle.scfs_agent.proofs.agent.no_tallies.Given as goal
 

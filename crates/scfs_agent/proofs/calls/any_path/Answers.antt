@@ -2,7 +2,7 @@ use Rattle.std.proofs.Common.{◌≡◌, ◌∙◌}
 use Rattle.std.specs.Str.{is_utf8}
 use Rattle.std.proofs.lemmas.Result.{IfOk-weaker}
 use Rattle.scfs_anchor.specs.Names as anchor
-use Rattle.scfs_machine.specs.Paths.{names_of}
+use Rattle.scfs_model.specs.Paths.{names_of}
 use Rattle.scfs_agent.proofs.PathLemmas.{names_same}
 use Rattle.scfs_agent.proofs.calls.any_path.Goals as goal
 

@@ -1,7 +1,7 @@
 use Rattle.std.proofs.Common.{◌≡◌, ◌<◌, ◌++◌, length, map}
 use Rattle.std.specs.List.{All}
 use Rattle.scfs_policy.specs.declared.rank.RankFacts.{RankFacts}
-use Rattle.scfs_machine.specs.Opens.{one_more}
+use Rattle.scfs_model.specs.Opens.{one_more}
 use Rattle.scfs_agent.proofs.fetching.one_more_of.Given as goal
 
 abbrev pub invariant-each : goal.invariant-each

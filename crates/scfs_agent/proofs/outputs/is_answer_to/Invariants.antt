@@ -1,5 +1,5 @@
 use Rattle.std.proofs.Common.{◌≡◌, length}
-use Rattle.scfs_machine.specs.Asked.{is_answer_to}
+use Rattle.scfs_model.specs.Asked.{is_answer_to}
 use Rattle.scfs_agent.specs.Views.{asked_of}
 use Rattle.scfs_agent.proofs.outputs.is_answer_to.Given as goal
 

@@ -1,5 +1,5 @@
 use Rattle.std.proofs.Common.{◌≡◌, ◌+◌, ◌++◌, length}
-use Rattle.scfs_machine.specs.Asked as machine
+use Rattle.scfs_model.specs.Asked as machine
 use Rattle.scfs_agent.specs.Views.{asked_of}
 use Rattle.scfs_agent.proofs.outputs.numbered.Given as goal
 

@@ -2,7 +2,7 @@ use Rattle.std.proofs.Common.{◌≡◌}
 use Rattle.std.specs.Prelude.{filter, not}
 use Rattle.std.specs.FinSet as set
 use Rattle.scfs_quorum_write.specs.Acks.{clouds_of}
-use Rattle.scfs_machine.specs.Lists.{below}
+use Rattle.scfs_model.specs.Lists.{below}
 use Rattle.scfs_agent.proofs.uploading.missing.Given as goal
 
 abbrev pub invariant-loop-cloud : goal.invariant-loop-cloud

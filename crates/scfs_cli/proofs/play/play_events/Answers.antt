@@ -4,7 +4,7 @@ use Rattle.scfs_schedule.specs.declared.types.Event.{Event}
 use Rattle.scfs_schedule.specs.declared.types.Ending.{Ending}
 use Rattle.scfs_schedule.specs.declared.types.Header.{Header}
 use Rattle.scfs_schedule.specs.Reading.{IsAtEvents, gives, with_event}
-use Rattle.scfs_machine.specs.History.{transcript}
+use Rattle.scfs_model.specs.History.{transcript}
 use Rattle.scfs_cli.specs.Playing.{events_played, finish_at}
 use Rattle.scfs_cli.specs.Plays.{GoesOn, Turns, entry_text}
 use Rattle.scfs_cli.specs.declared.play.Turn.{Turn}

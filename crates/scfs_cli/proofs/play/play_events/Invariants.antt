@@ -2,7 +2,7 @@ use Rattle.std.proofs.Common.{◌≡◌, ◌≤◌, ◌+◌, [], length}
 use Rattle.scfs_base.specs.Limits.{events_limit}
 use Rattle.scfs_base.specs.Outside.{Puts}
 use Rattle.scfs_schedule.specs.Reading.{IsAtEvents, gives}
-use Rattle.scfs_machine.specs.History.{History, transcript}
+use Rattle.scfs_model.specs.History.{History, transcript}
 use Rattle.scfs_world.specs.Happening.{Stands}
 use Rattle.scfs_world.specs.Stepping.{IsWorld}
 use Rattle.scfs_cli.proofs.HistoryLemmas.{with_past, AllPlayed, Known}

@@ -1,7 +1,7 @@
 use Rattle.std.proofs.Common.{◌≡◌, ◌∷◌, ◌++◌, length, ap, subst, sym, ◌∙◌, arith, append_assoc, append-nil, All}
 use Rattle.std.proofs.lemmas.List.Elements.{All-rest}
 use Rattle.std.proofs.lemmas.Result.{err_from_is_err_and}
-use Rattle.scfs_machine.specs.UnitFormat.{under}
+use Rattle.scfs_model.specs.UnitFormat.{under}
 use Rattle.scfs_net.specs.Queues.{NetState}
 use Rattle.scfs_world.specs.Doing.{AsksAmong, lines_out, line_out, steps_out, step_out, net_with, net_by}
 use Rattle.scfs_world.proofs.OutputLemmas.{length-net_by, carried_with}

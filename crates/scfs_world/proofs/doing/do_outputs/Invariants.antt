@@ -1,7 +1,7 @@
 use Rattle.std.proofs.Common.{◌≡◌, ◌≤◌, ◌++◌, length}
 use Rattle.std.specs.List.{All}
 use Rattle.scfs_base.specs.Limits.{carried_limit}
-use Rattle.scfs_machine.specs.UnitFormat.{under}
+use Rattle.scfs_model.specs.UnitFormat.{under}
 use Rattle.scfs_schedule.specs.declared.types.Header.{Header}
 use Rattle.scfs_world.specs.Doing.{AsksAmong, lines_out, steps_out, net_with}
 use Rattle.scfs_world.proofs.doing.do_outputs.Given as goal

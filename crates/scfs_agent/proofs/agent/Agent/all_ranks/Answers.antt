@@ -1,7 +1,7 @@
 use Rattle.std.proofs.Common.{◌≡◌, ℕ, ◌+◌, ◌*◌, List, [], length, ap, ◌∙◌, subst, arith}
 use Rattle.std.proofs.lemmas.List.{length-map}
 use Rattle.scfs_policy.specs.declared.rank.RankFacts.{RankFacts}
-use Rattle.scfs_machine.specs.Runs.{Answers}
+use Rattle.scfs_model.specs.Runs.{Answers}
 use Rattle.scfs_agent.specs.State.{AgentState}
 use Rattle.std.proofs.lemmas.Grind.{common_steps}
 use Rattle.scfs_agent.proofs.CloudLists.{length-below}

@@ -1,5 +1,5 @@
 use Rattle.std.proofs.Common.{◌≡◌, ℕ, ◌+◌, List, ◌++◌, length}
-use Rattle.scfs_machine.specs.Runs.{Answers}
+use Rattle.scfs_model.specs.Runs.{Answers}
 use Rattle.scfs_agent.proofs.agent.Agent.all_ranks.Given as goal
 
 abbrev pub invariant-each : goal.invariant-each

@@ -2,10 +2,10 @@ use Rattle.std.proofs.Common.{◌≡◌, ℕ, ◌+◌, ◌*◌, ◌<◌, refl, a
 use Rattle.std.proofs.lemmas.List.Elements.{All-same}
 use Rattle.scfs_quorum_write.specs.Acks.{no_acks}
 use Rattle.scfs_base.specs.declared.naming.UploadNo.{UploadNo}
-use Rattle.scfs_machine.specs.Format.{sealed}
-use Rattle.scfs_machine.specs.Lists.{below}
-use Rattle.scfs_machine.specs.Layers.{rows}
-use Rattle.scfs_machine.specs.Names.{upload_no}
+use Rattle.scfs_model.specs.Format.{sealed}
+use Rattle.scfs_model.specs.Lists.{below}
+use Rattle.scfs_model.specs.Layers.{rows}
+use Rattle.scfs_model.specs.Names.{upload_no}
 use Rattle.scfs_agent.specs.State.{AgentState, setup}
 use Rattle.scfs_agent.specs.Asking.{MayClose}
 use Rattle.scfs_agent.specs.Views.{left_session, row_of}

@@ -1,6 +1,6 @@
 use Rattle.std.proofs.Common.{ap}
-use Rattle.scfs_machine.specs.Layers.{Row}
-use Rattle.scfs_machine.specs.Agents.{Reaction}
+use Rattle.scfs_model.specs.Layers.{Row}
+use Rattle.scfs_model.specs.Agents.{Reaction}
 use Rattle.scfs_agent.specs.Outputs.{outputs_of}
 use Rattle.scfs_agent.proofs.CallLemmas.{called_idle}
 use Rattle.scfs_agent.proofs.HandingLemmas.{gives_by, after_by}

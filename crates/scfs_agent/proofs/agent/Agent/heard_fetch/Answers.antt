@@ -2,7 +2,7 @@ use Rattle.std.proofs.Common.{◌≡◌, true, false, ap}
 use Rattle.std.specs.Prelude.{not}
 use Rattle.std.proofs.Common.{arith}
 use Rattle.std.proofs.lemmas.Grind.{common_steps}
-use Rattle.scfs_machine.specs.Asked.{is_answer_to}
+use Rattle.scfs_model.specs.Asked.{is_answer_to}
 use Rattle.scfs_quorum_read.specs.Reading.{is_among}
 use Rattle.scfs_agent.specs.State.{AgentState}
 use Rattle.scfs_agent.specs.Views.{asked_of}

@@ -3,12 +3,12 @@ use Rattle.std.specs.Prelude.{◌&&◌}
 use Rattle.std.specs.List.{All}
 use Rattle.std.proofs.lemmas.List.Elements.{All-nil}
 use Rattle.scfs_quorum_write.specs.declared.progress.Progress.TheVariants as progresses
-use Rattle.scfs_machine.specs.Asked.{is_answer_to}
-use Rattle.scfs_machine.specs.Layers.{Row}
-use Rattle.scfs_machine.specs.SessionSteps.{Commit}
-use Rattle.scfs_machine.specs.Steps.{On_sessions}
-use Rattle.scfs_machine.specs.Storing.{is_ack}
-use Rattle.scfs_machine.specs.Agents.{Agent, For_close, Reaction}
+use Rattle.scfs_model.specs.Asked.{is_answer_to}
+use Rattle.scfs_model.specs.Layers.{Row}
+use Rattle.scfs_model.specs.SessionSteps.{Commit}
+use Rattle.scfs_model.specs.Steps.{On_sessions}
+use Rattle.scfs_model.specs.Storing.{is_ack}
+use Rattle.scfs_model.specs.Agents.{Agent, For_close, Reaction}
 use Rattle.scfs_agent.specs.State.{AgentState}
 use Rattle.scfs_agent.specs.Views.{asked_of, row_of}
 use Rattle.scfs_agent.specs.Outputs.{outputs_of}

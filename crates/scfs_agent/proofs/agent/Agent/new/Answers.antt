@@ -5,7 +5,7 @@ use Rattle.scfs_schedule.specs.Grammar.{IsHeader}
 use Rattle.scfs_schedule.specs.declared.types.Header.{Header}
 use Rattle.scfs_session.specs.Open.{OpenSessions}
 use Rattle.scfs_session.specs.declared.sessions.Session.{Session}
-use Rattle.scfs_machine.specs.Lists.{below}
+use Rattle.scfs_model.specs.Lists.{below}
 use Rattle.scfs_agent.specs.Keeping.{IsKept, FitsAsking}
 use Rattle.scfs_agent.specs.declared.work.Pending.{Pending}
 use Rattle.scfs_agent.specs.declared.work.Work.TheVariants as works

@@ -1,6 +1,6 @@
 use Rattle.std.proofs.Common.{ℕ, [], cond, IfOk, length, sym, ap, ◌∙◌, subst}
 use Rattle.scfs_policy.specs.declared.rank.RankFacts.{RankFacts}
-use Rattle.scfs_machine.specs.Runs.{Answers}
+use Rattle.scfs_model.specs.Runs.{Answers}
 use Rattle.scfs_agent.specs.Telling.{pending_step, reads_version}
 use Rattle.scfs_agent.specs.Reacting.{FitsInput, Obeys}
 use Rattle.scfs_agent.specs.declared.types.Input.{Input}

@@ -1,6 +1,6 @@
 use Rattle.std.proofs.Common.{List, map, sym, subst}
 use Rattle.scfs_policy.specs.declared.rank.RankFacts.{RankFacts}
-use Rattle.scfs_machine.specs.Opens.{one_more}
+use Rattle.scfs_model.specs.Opens.{one_more}
 use Rattle.scfs_agent.specs.State.{AgentState}
 use Rattle.scfs_agent.specs.Keeping.{AreTallies, HaveRoom}
 use Rattle.scfs_agent.proofs.KeptLemmas.{kept_tallies, tallies_more}

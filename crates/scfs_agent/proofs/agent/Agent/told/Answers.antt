@@ -1,8 +1,8 @@
 use Rattle.std.proofs.Common.{◌≡◌, ℕ, ◌+◌, ◌*◌, Option, None, List, true, length, map, refl, sym, ap, ◌∙◌, subst}
 use Rattle.std.proofs.lemmas.List.{length-map}
 use Rattle.scfs_anchor.specs.StepReplies.{IsReplyTo}
-use Rattle.scfs_machine.specs.Layers.{Row}
-use Rattle.scfs_machine.specs.Agents.{Request}
+use Rattle.scfs_model.specs.Layers.{Row}
+use Rattle.scfs_model.specs.Agents.{Request}
 use Rattle.scfs_agent.specs.State.{AgentState, given_now}
 use Rattle.scfs_agent.specs.Views.{request_of}
 use Rattle.scfs_agent.specs.Keeping.{FitsAsking}

@@ -1,8 +1,8 @@
 use Rattle.std.proofs.Common.{sym, ap, ◌∙◌, subst}
 use Rattle.scfs_anchor.specs.declared.seen.Sight.{Sight}
-use Rattle.scfs_machine.specs.Layers.{Row, rows}
-use Rattle.scfs_machine.specs.Agents.{Reaction}
-use Rattle.scfs_machine.specs.Opens.{saw}
+use Rattle.scfs_model.specs.Layers.{Row, rows}
+use Rattle.scfs_model.specs.Agents.{Reaction}
+use Rattle.scfs_model.specs.Opens.{saw}
 use Rattle.scfs_agent.specs.State.{AgentState, setup, given_now}
 use Rattle.scfs_agent.specs.Outputs.{outputs_of}
 use Rattle.scfs_agent.specs.Telling.{FitsSeen, sight_meant}

@@ -5,9 +5,9 @@ use Rattle.scfs_agent.proofs.TurnLemmas.{turn_asking, turn_again}
 use Rattle.std.specs.Prelude.{filter, not}
 use Rattle.std.proofs.lemmas.List.Elements.{All-same, All-filter}
 use Rattle.scfs_quorum_read.specs.Reading.{is_among}
-use Rattle.scfs_machine.specs.Layers.{Row, rows}
-use Rattle.scfs_machine.specs.Agents.{Reaction}
-use Rattle.scfs_machine.specs.Opens.{asks_gets}
+use Rattle.scfs_model.specs.Layers.{Row, rows}
+use Rattle.scfs_model.specs.Agents.{Reaction}
+use Rattle.scfs_model.specs.Opens.{asks_gets}
 use Rattle.scfs_agent.specs.State.{AgentState, setup}
 use Rattle.scfs_agent.specs.Views.{opening_of}
 use Rattle.scfs_agent.specs.Outputs.{outputs_of}

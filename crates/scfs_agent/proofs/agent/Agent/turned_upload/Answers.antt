@@ -4,10 +4,10 @@ use Rattle.std.specs.FinSet as set
 use Rattle.std.proofs.lemmas.Grind.{common_steps}
 use Rattle.std.proofs.lemmas.List.Elements.{All-same, All-filter}
 use Rattle.scfs_quorum_write.specs.Acks.{clouds_of, count_of}
-use Rattle.scfs_machine.specs.Lists.{below}
-use Rattle.scfs_machine.specs.Layers.{Row}
-use Rattle.scfs_machine.specs.Agents.{Agent, For_close, Reaction}
-use Rattle.scfs_machine.specs.Closes.{asks_puts}
+use Rattle.scfs_model.specs.Lists.{below}
+use Rattle.scfs_model.specs.Layers.{Row}
+use Rattle.scfs_model.specs.Agents.{Agent, For_close, Reaction}
+use Rattle.scfs_model.specs.Closes.{asks_puts}
 use Rattle.scfs_agent.specs.State.{AgentState, setup}
 use Rattle.scfs_agent.specs.Views.{upload_of, closed_of}
 use Rattle.scfs_agent.specs.Outputs.{outputs_of}

@@ -1,10 +1,10 @@
 use Rattle.std.proofs.Common.{ℕ, ◌+◌, length, Option, Result, sym, subst}
 use Rattle.scfs_schedule.specs.declared.types.Refusal.{Refusal}
 use Rattle.scfs_session.specs.declared.sessions.Session.{Session}
-use Rattle.scfs_machine.specs.Sayings.{Saying, said_by}
+use Rattle.scfs_model.specs.Sayings.{Saying, said_by}
 use Rattle.scfs_session.specs.Contents.{written}
 use Rattle.scfs_session.specs.Open.{after_write}
-use Rattle.scfs_machine.specs.Sayings as says
+use Rattle.scfs_model.specs.Sayings as says
 use Rattle.scfs_agent.specs.Keeping.{HaveBases}
 use Rattle.scfs_agent.proofs.KeptLemmas.{kept_sessions, changed_bases}
 use Rattle.scfs_agent.proofs.CallLemmas.{change_err, change_after}

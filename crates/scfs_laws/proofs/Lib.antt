@@ -1,0 +1,63 @@
+pub mod ListMaps
+pub mod AgentMaps
+pub mod LeaseMaps
+pub mod OpenMaps
+pub mod CloseMaps
+pub mod SessionMaps
+pub mod StepMaps
+pub mod CallMaps
+pub mod ToldMaps
+pub mod ReactionMaps
+pub mod StateMaps
+pub mod TwoLayers
+pub mod SoundLists
+pub mod SoundKept
+pub mod SoundCalls
+pub mod SoundOpens
+pub mod SoundReactions
+pub mod SoundStates
+pub mod SoundAnswers
+pub mod SoundUnit
+pub mod SoundLaw
+pub mod HeldSessions
+pub mod HeldSeats
+pub mod HeldSteps
+pub mod HeldLines
+pub mod HeldDoing
+pub mod HeldCalls
+pub mod HeldCloses
+pub mod HeldClosing
+pub mod HeldOpens
+pub mod HeldTold
+pub mod HeldWork
+pub mod HeldStays
+pub mod HeldVersions
+pub mod HeldMixed
+pub mod HeldSpace
+pub mod HeldKeeping
+pub mod HeldPlaces
+pub mod HeldReads
+mod HeldPlayed
+mod NewestLists
+mod NewestDraws
+mod NewestKept
+mod NewestSteady
+mod NewestWalk
+mod NamesWalks
+mod NamesEvents
+mod NamesSteps
+mod NamesApart
+mod NamesLocks
+mod NewestLines
+mod NamesCommits
+mod NewestVersions
+mod NewestTree
+mod NewestServes
+mod NewestSeats
+mod NewestSaid
+mod NewestComes
+mod NewestServed
+mod NewestPlaces
+mod NewestStates
+mod NewestOpens
+mod NewestRuns

@@ -1,0 +1,9 @@
+pub mod Held
+pub mod Mapped
+pub mod Sound
+pub mod Blocks
+pub mod Newest
+pub mod TreeLaws
+pub mod Fences
+pub mod Acknowledged
+pub mod Laws

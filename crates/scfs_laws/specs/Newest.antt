@@ -1,0 +1,83 @@
+use Rattle.std.specs.Prelude.{◌≡◌, ℕ, [], ◌∷◌, fold, Bool, false, ◌==◌, if◌then◌else◌, Option, Some, None, Contains}
+use Rattle.std.specs.List.{list_any}
+use Rattle.scfs_base.specs.declared.naming.FileId.{FileId}
+use Rattle.scfs_base.specs.declared.naming.RequestNo.{RequestNo}
+use Rattle.scfs_schedule.specs.declared.types.Line.{Line}
+use Rattle.scfs_schedule.specs.declared.types.Line.TheVariants as lines
+use Rattle.scfs_schedule.specs.declared.types.Src.{Src}
+use Rattle.scfs_schedule.specs.declared.types.Src.TheVariants as sources
+use Rattle.scfs_model.specs.Names.{same_file, same_request}
+use Rattle.scfs_model.specs.History.{Entry, History}
+
+-- The sentence on opens, over the lines of a history alone: the version of an opened line is that of the last committed line of its
+-- file before the looked or locked line of its request.
+
+-- the version of a file after a line: a committed line of the file says it
+abbrev pub after_commit : FileId → (number : ℕ) → Line → ℕ
+after_commit file number (lines.Committed request other version) = if same_file other file then version else number
+after_commit file number other = number
+
+-- the version of the last committed line of a file; 0 where there is none
+abbrev pub last_committed : FileId → History → ℕ
+last_committed file [] = 0
+last_committed file (e ∷ past) = fold (after_commit file) (last_committed file past) e.lines
+
+-- whether a line is the looked or the locked line of a request
+abbrev pub is_service : RequestNo → Line → Bool
+is_service request (lines.Looked other) = same_request other request
+is_service request (lines.Locked other file until) = same_request other request
+is_service request other = false
+
+-- the part of a history before the entry that has the looked or locked line of a request (a request is served once; were there two
+-- such entries, this would take the later one)
+abbrev pub before_service : RequestNo → History → Option History
+before_service request [] = None
+before_service request (e ∷ past) = if list_any (is_service request) e.lines then Some past else before_service request past
+
+-- a saw line: the request of an open, its file, and the version that the open saw
+pub record Saw_line : Type 0 where
+  pub request : RequestNo
+  pub file : FileId
+  pub number : ℕ
+
+-- the latest saw line of an agent after a line
+abbrev pub after_saw : (a : ℕ) → Option Saw_line → Line → Option Saw_line
+after_saw a latest (lines.Saw request file number) =
+    if request.agent == a then Some (record { request = request; file = file; number = number }) else latest
+after_saw a latest other = latest
+
+-- the latest saw line of an agent. An opened line belongs to this one: an open says its saw line when it is told its sight, an agent has
+-- one call at a time, and so no other open of it says a saw line before this one is opened, refused or lost in a crash
+abbrev pub latest_saw : (a : ℕ) → History → Option Saw_line
+latest_saw a [] = None
+latest_saw a (e ∷ past) = fold (after_saw a) (latest_saw a past) e.lines
+
+-- a saw line's version was the newest of its file when its request was served
+abbrev pub WasNewest : History → Saw_line → Type 0
+WasNewest past saw = (before : History) × (before_service saw.request past ≡ Some before) × (saw.number ≡ last_committed saw.file before)
+
+-- an open of this version, where this is the agent's latest saw line
+abbrev pub IsNewest : History → Option Saw_line → (number : ℕ) → Type 0
+IsNewest past None number = ⊥
+IsNewest past (Some saw) number = (number ≡ saw.number) × WasNewest past saw
+
+-- version 0 is empty, and any other one comes from the clouds
+abbrev pub IsFrom : (number : ℕ) → Src → (size : ℕ) → Type 0
+IsFrom number source size = (number ≡ 0 → (source ≡ sources.Empty) × (size ≡ 0)) × (¬ (number ≡ 0) → source ≡ sources.Clouds)
+
+-- each saw line of an entry is of the newest version of its file
+abbrev pub SeesNewest : History → Entry → Type 0
+SeesNewest past e =
+    (request : RequestNo) (file : FileId) (number : ℕ) → Contains e.lines (lines.Saw request file number)
+    → WasNewest past (record { request = request; file = file; number = number })
+
+-- each opened line of an entry is of the newest version of its file
+abbrev pub ShowsNewest : History → Entry → Type 0
+ShowsNewest past e =
+    (a h number : ℕ) (source : Src) (size : ℕ) → Contains e.lines (lines.Opened a h number source size)
+    → IsNewest past (latest_saw a (e ∷ past)) number × IsFrom number source size
+
+-- each saw line and each opened line of a history is
+abbrev pub OpensNewest : History → Type 0
+OpensNewest [] = Unit {0}
+OpensNewest (e ∷ past) = SeesNewest past e × ShowsNewest past e × OpensNewest past

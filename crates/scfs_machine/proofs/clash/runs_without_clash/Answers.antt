@@ -1,5 +1,0 @@
-use Rattle.scfs_machine.proofs.SoundLaw.{runs_without_clash}
-use Rattle.scfs_machine.proofs.clash.runs_without_clash.Goals as goal
-
-pub returns : goal.returns
-returns c = runs_without_clash

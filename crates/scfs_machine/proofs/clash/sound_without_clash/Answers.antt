@@ -1,5 +1,0 @@
-use Rattle.scfs_machine.proofs.SoundLaw.{sound_without_clash}
-use Rattle.scfs_machine.proofs.clash.sound_without_clash.Goals as goal
-
-pub returns : goal.returns
-returns c = sound_without_clash

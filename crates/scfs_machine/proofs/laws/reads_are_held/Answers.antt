@@ -1,5 +1,0 @@
-use Rattle.scfs_machine.proofs.HeldReads.{reads_are_held}
-use Rattle.scfs_machine.proofs.laws.reads_are_held.Goals as goal
-
-pub returns : goal.returns
-returns c = reads_are_held
