@@ -1,6 +1,6 @@
 ghost use Rattle.std.specs.Prelude.{◌≡◌, ◌≤◌, [], None, Some, length, IfOk, OnOk, MatchResult};
 ghost use Rattle.scfs_base.specs.Limits.{contents_limit};
-ghost use Rattle.scfs_session.specs.Open.{session_of, opened, ended, read_answer, after_write, after_truncate, change_answer, sessions_after};
+ghost use Rattle.scfs_session.specs.Open.{session_of, opened, ended, read_answer, after_write, after_truncate, change_answer, sessions_after, file_of};
 
 use crate::CONTENTS_LIMIT;
 use crate::contents::Contents;
@@ -171,6 +171,14 @@ impl Sessions {
             writes: held.writes,
             contents: held.contents.into_bytes(),
         })
+    }
+
+    /// The file of an open session, if one has that number.
+    pub fn file(&self, session: u64) -> Option<FileId>
+        ensures { result ≡ file_of (session_of self.now session) }
+    {
+        let held = self.by_number.get(&session)?;
+        Some(held.file)
     }
 
     /// How many sessions are held.
