@@ -1,4 +1,4 @@
--- What a tracker stands for.
+-- A tracker, and what answers and turns do to it.
 use Rattle.std.specs.Prelude.{◌≡◌, ℕ, ◌+◌, ◌-◌, ◌*◌, ◌<◌, ◌≤◌, List, [], ◌∷◌, ◌++◌, length, take, ◌==◌, nat_lt, if◌then◌else◌, Option, Some, None, option_map}
 use Rattle.std.specs.Option.{option_to_list}
 use Rattle.scfs_base.specs.declared.cloud.CloudAnswer.{CloudAnswer}
@@ -11,7 +11,7 @@ use Rattle.scfs_quorum_read.specs.declared.steps.ReadStep.{ReadStep}
 use Rattle.scfs_quorum_read.specs.declared.steps.ReadStep.TheVariants.{Ask, Wait, Whole}
 use Rattle.scfs_quorum_read.specs.declared.steps.TurnStep.{TurnStep}
 use Rattle.scfs_quorum_read.specs.declared.steps.TurnStep.TheVariants.{Again, Spent}
-use Rattle.scfs_quorum_read.specs.Reading.{Reading, Told, good_piece, good_pieces, is_among, first_unasked, asking, asked, turned}
+use Rattle.scfs_quorum_read.specs.Reading.{Reading, good_piece, is_among, first_unasked, asking}
 
 -- the step of a turn when so many are left, and so many clouds are good
 abbrev pub ends_at : Option ℕ → ℕ → TurnStep
@@ -24,17 +24,6 @@ pub record Tracker : Type 0 where
   pub asked : List ℕ
   pub pieces : List KeptPiece
   pub left : Option ℕ
-
--- the turns that are left after so many
-abbrev pub left_after : Option ℕ → ℕ → Option ℕ
-left_after None number = None
-left_after (Some last) number = Some (last - number)
-
--- the tracker is as this past leaves it
-pub record StandsFor (tracker : Tracker) (past : List Told) : Type 0 where
-  pub asked : tracker.asked ≡ asked tracker.reading past
-  pub pieces : tracker.pieces ≡ good_pieces tracker.reading past
-  pub left : tracker.left ≡ left_after tracker.reading.turns (turned past)
 
 -- at first the first f + 1 clouds are asked
 abbrev pub begun : Reading → Tracker

@@ -1,8 +1,8 @@
 ghost use Rattle.std.specs.Prelude.{◌≡◌, ◌≢◌, ◌+◌, ◌*◌, ◌<◌, ◌≤◌, List, [], ◌∷◌, ◌++◌, length, false, not, MatchOption, IfOk, IfSome, OnErr, OnOk, None};
 ghost use Rattle.std.specs.Option.{option_to_list};
 ghost use Rattle.scfs_unit.specs.Checking.{kept, IsPiece};
-ghost use Rattle.scfs_quorum_read.specs.Reading.{Reading, Told, Answered, Turned, good_piece, is_among, first_unasked, asking, read_step, turn_step};
-ghost use Rattle.scfs_quorum_read.specs.Tracking.{StandsFor, IsOrder, LeavesOpen, kept_step, begun, heard, turn_comes_to, turn_taken};
+ghost use Rattle.scfs_quorum_read.specs.Reading.{Reading, good_piece, is_among, first_unasked, asking};
+ghost use Rattle.scfs_quorum_read.specs.Tracking.{IsOrder, LeavesOpen, kept_step, begun, heard, turn_comes_to, turn_taken};
 
 use crate::steps::{ReadStep, TurnStep};
 use scfs_base::{CloudAnswer, Digest, Memory};
@@ -60,7 +60,6 @@ impl ReadTracker {
         requires turns { turns ≢ Some 0 }
         ensures reading { IfOk result (λ tracker. tracker.reading
             ≡ record { f = f; root = root; size = length; order = order.now; turns = turns }) }
-        ensures stands { IfOk result (λ tracker. StandsFor tracker []) }
         ensures begins { IfOk result (λ tracker. tracker ≡ begun (record { f = f; root = root; size = length; order = order.now; turns = turns })) }
     {
         Ok(ReadTracker {
@@ -82,10 +81,6 @@ impl ReadTracker {
         requires cloud { cloud < 3 * self.old.reading.f + 1 }
         requires open { length self.old.pieces ≤ self.old.reading.f }
         ensures reading { IfOk result (λ step. self.new.reading ≡ self.old.reading) }
-        ensures step { IfOk result (λ step. (past : List Told) → StandsFor self.old past
-            → step ≡ read_step self.old.reading past cloud answer.now) }
-        ensures stands { IfOk result (λ step. (past : List Told) → StandsFor self.old past
-            → StandsFor self.new (Answered cloud answer.now ∷ past)) }
         ensures open { IfOk result (λ step. LeavesOpen step self.new) }
         ensures steps { IfOk result (λ step. step ≡ (heard self.old cloud answer.now).step) }
         ensures after { IfOk result (λ step. self.new ≡ (heard self.old cloud answer.now).after) }
@@ -172,8 +167,6 @@ impl ReadTracker {
     pub fn turn(&mut self) -> TurnStep
         requires { self.old.left ≢ Some 0 }
         ensures reading { self.new.reading ≡ self.old.reading }
-        ensures step { (past : List Told) → StandsFor self.old past → result ≡ turn_step self.old.reading past }
-        ensures stands { (past : List Told) → StandsFor self.old past → StandsFor self.new (Turned ∷ past) }
         ensures open { result ≡ TurnStep.Again → self.new.left ≢ Some 0 }
         ensures steps { result ≡ turn_comes_to self.old }
         ensures after { self.new ≡ turn_taken self.old }
