@@ -153,7 +153,7 @@ leased_are most h until leases first room are =
 changed_are : (most : ℕ) (f : Lease → Lease) → ((l : Lease) → (f l).session ≡ l.session) → (leases : List Lease) → AreLeases most leases
     → AreLeases most (map f leases)
 changed_are most f same leases are = record {
-  few = rw (length-map f leases) are.few;
+  few = rw (length-map leases f) are.few;
   numbered = All-map Numbered f leases (All-weaker Numbered (λ l. Numbered (f l)) (λ l first. omega (arith, same l, first)) leases are.numbered);
 }
 
