@@ -7,7 +7,7 @@ use Rattle.std.specs.Ordering.{nat_cmp, match_ordering}
 use Rattle.std.specs.declared.cmp.Ordering.{Ordering}
 use Rattle.std.specs.declared.cmp.Ordering.TheVariants.{Less, Equal, Greater}
 use Rattle.std.specs.BTreeMap.{is_at}
-use Rattle.std.proofs.lemmas.List.Elements.{All-cons, All-head, All-tail, All-weaker, All-map, All-push, All-append, All-filter}
+use Rattle.std.proofs.lemmas.List.Elements.{All-nil, All-cons, All-head, All-tail, All-weaker, All-map, All-push, All-append, All-filter}
 use Rattle.std.proofs.lemmas.List.Sums.{length-filter, count_by-le-length}
 use Rattle.std.proofs.lemmas.Bool.{lt-ltb, le-ltb, cases_order}
 use Rattle.std.proofs.lemmas.List.{map-append, length-map}
@@ -21,8 +21,11 @@ use Rattle.scfs_session.specs.Open.{OpenSessions, session_of, opened, ended, cha
 use Rattle.scfs_model.specs.Opens.{one_more}
 use Rattle.scfs_schedule.specs.declared.types.Header.{Header}
 use Rattle.scfs_anchor.specs.Tree.{Each}
+use Rattle.scfs_schedule.specs.Grammar.{IsHeader}
 use Rattle.scfs_model.specs.Layers.{Row}
-use Rattle.scfs_model.specs.Agents.{Closed}
+use Rattle.scfs_model.specs.Lists.{below}
+use Rattle.scfs_model.specs.UnitFormat.{under}
+use Rattle.scfs_model.specs.Agents.{Closed, no_tallies}
 use Rattle.scfs_agent.specs.Asking.{MayUpload}
 use Rattle.scfs_agent.specs.Settled.{OneBegun}
 use Rattle.scfs_agent.specs.Views.{step_of, request_of, waiting_of, closed_in}
@@ -30,6 +33,7 @@ use Rattle.scfs_agent.specs.Keeping.{HaveBases, AreLeases, AreTallies, HaveRoom,
 use Rattle.scfs_agent.specs.declared.work.Pending.{Pending}
 use Rattle.scfs_agent.specs.declared.work.Work.{Work}
 use Rattle.scfs_agent.specs.declared.work.Work.TheVariants as works
+use Rattle.scfs_agent.proofs.CloudLists.{first_clouds, first_few}
 use Rattle.scfs_agent.proofs.PendingLemmas.{calls_push, All-remove}
 
 abbrev Based : ℕ × Session → Type 0
@@ -165,6 +169,21 @@ ended_are most h until = changed_are most (end_told h until) (λ l. by_session h
 
 pub renewal_are : (most h : ℕ) (leases : List Lease) → AreLeases most leases → AreLeases most (with_renewal h leases)
 renewal_are most h = changed_are most (renewal_asked h) (λ l. by_session h (record l { asked = true }) l refl)
+
+-- an agent with no sessions, and no clouds counted
+pub kept_none : (header : Header) (no incarnation inputs requests opens files uploads : ℕ) (work : Work) (sessions : OpenSessions) (leases : List Lease) (tallies : List RankFacts)
+    (pending : List Pending) → IsHeader header → no < length header.agents → inputs ≤ 1000000 → incarnation ≤ inputs → requests ≤ 2000000 * inputs → opens ≤ inputs
+    → files ≤ inputs → uploads ≤ inputs → IsWork no incarnation header.f inputs work → sessions ≡ [] → leases ≡ [] → tallies ≡ no_tallies (under header) → pending ≡ []
+    → IsKept header no incarnation inputs requests opens files uploads work sessions leases tallies pending
+kept_none header a incarnation inputs requests opens files uploads work sessions leases tallies pending is member counted started drawn opened made begun working s l t p =
+    let clouds = below (3 * header.f + 1) in
+    let bases : HaveBases sessions = subst HaveBases (sym s) (All-nil Based) in
+    let leased : AreLeases inputs leases = subst (AreLeases inputs) (sym l) (record { few = omega arith; numbered = All-nil Numbered }) in
+    let tallied : AreTallies header.f inputs tallies =
+    subst (AreTallies header.f inputs) (sym t) (record { clouds = first_clouds clouds; few = first_few inputs clouds }) in
+    let fitting : All (λ (x : Pending). FitsAsking x.asking) pending = subst (All (λ (x : Pending). FitsAsking x.asking)) (sym p) (All-nil (λ (x : Pending). FitsAsking x.asking)) in
+    let waits : calls_in (map request_of pending) ≤ calls_of (waiting_of work) = omega (arith, ap (λ (xs : List Pending). calls_in (map request_of xs)) p) in
+    assumption (is, member, counted, started, drawn, opened, made, begun, working, bases, leased, tallied, fitting, waits)
 
 -- an agent with other work, sessions, leases, tallies or steps that were asked
 module _ {header : Header} {no incarnation inputs requests opens files uploads : ℕ} {work : Work} {sessions : OpenSessions} {leases : List Lease} {tallies : List RankFacts}

@@ -1,3 +1,4 @@
+pub mod RenewalLemmas
 pub mod LeaseLemmas
 pub mod CloudLists
 pub mod CodeOrder

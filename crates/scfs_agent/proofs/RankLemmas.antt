@@ -86,7 +86,7 @@ module _ (s : Setup) (a : ℕ) (given : Given) (agent : Agent Row) where
   told_asks lease request (Of_sessions (Open_read names h) (Err why)) reply is =
       ap (asked s a given agent) (sym (shows_refused (step_of (session_plan lease request (Open_read names h))) why reply.result is))
   told_asks lease request (Of_sessions (Open_write names h) (Ok (Sees sight))) reply is = absurd is
-  told_asks lease request (Of_sessions (Open_write names h) (Ok (Locks sight l))) reply is = saw_asks s a given (leased agent h l.until) request h true sight reply is
+  told_asks lease request (Of_sessions (Open_write names h) (Ok (Locks sight l))) reply is = saw_asks s a given (leased agent h l.until) request h true sight reply is.0
   told_asks lease request (Of_sessions (Open_write names h) (Ok (Completes session v n))) reply is = absurd is
   told_asks lease request (Of_sessions (Open_write names h) (Err why)) reply is =
       ap (asked s a given agent) (sym (shows_refused (step_of (session_plan lease request (Open_write names h))) why reply.result is))
