@@ -5,7 +5,7 @@ use Rattle.std.specs.List.{All, AllByRecursion}
 use Rattle.std.proofs.lemmas.Bool.{lt-ltb, le-ltb, cases_lt}
 use Rattle.std.proofs.lemmas.Bool.Decides.{eqb_tells}
 use Rattle.std.proofs.lemmas.List.{append-nil}
-use Rattle.std.proofs.lemmas.List.Elements.{All-head, All-tail}
+use Rattle.std.proofs.lemmas.List.Elements.{All-nil, All-head, All-tail, All-append}
 use Rattle.scfs_base.specs.declared.naming.FileId.{FileId}
 use Rattle.scfs_lease.specs.declared.leases.Lease.{Lease}
 use Rattle.scfs_lease.specs.Leases.{IsRising, is_due, is_due_after, first_due, with_renewal}
@@ -15,7 +15,7 @@ use Rattle.scfs_model.specs.Agents.{Agent, Reaction, silent, followed}
 use Rattle.scfs_model.specs.Leases.{file_of, renews, renews_all, renews_due}
 use Rattle.scfs_agent.specs.State.{AgentState}
 use Rattle.scfs_agent.specs.Outputs.{outputs_by}
-use Rattle.scfs_agent.specs.Keeping.{AreLeases, MayDraw}
+use Rattle.scfs_agent.specs.Keeping.{AreLeases, FitsOutput}
 use Rattle.scfs_agent.specs.declared.types.Output.{Output}
 use Rattle.scfs_agent.proofs.CloudLists.{filter_short}
 use Rattle.scfs_agent.proofs.LeaseLemmas.{outputs_followed}
@@ -160,6 +160,7 @@ pub record IsRenewing (old view : AgentState) (now after : ℕ) (given : List Ou
   pub same : view ≡ record old { agent = view.agent }
   pub closed : view.agent.closed ≡ old.agent.closed
   pub drawn : view.agent.requests + length (due now old.header.lease after view.agent.leases) ≤ old.agent.requests + 1000000
+  pub asks : All (FitsOutput old.header.f) given
 
 pub renewing_first : (old : AgentState) (now most : ℕ) → AreLeases most old.agent.leases → most ≤ 1000000 → IsRenewing old old now 0 []
 renewing_first old now most are few =
@@ -170,6 +171,7 @@ renewing_first old now most are few =
       same = refl;
       closed = refl;
       drawn = omega (arith, filter_short (is_due_after now old.header.lease 0) old.agent.leases, are.few, few);
+      asks = All-nil (FitsOutput old.header.f);
     }
 
 module _ (old view : AgentState) (now after : ℕ) (given : List Output) (is : IsRenewing old view now after given) where
@@ -191,24 +193,9 @@ module _ (old view : AgentState) (now after : ℕ) (given : List Output) (is : I
     fewer : length (due now old.header.lease session renewed.agent.leases) + 1 ≡ length (due now old.header.lease after view.agent.leases)
     fewer = one_fewer old.no old.header.lease now view.agent after session first
 
-    pub renewing_room : view.agent.requests + 1 ≤ old.agent.requests + 1000000
-    renewing_room = omega (arith, fewer, is.drawn)
-
-    following_is : IsRenewing old following now session (given ++ outputs_by old.no old.header.lease renewed)
-    following_is =
-        let rest = outputs_by old.no old.header.lease (left old.no old.header.lease now renewed.agent session) in
-        record {
-          gives =
-              append_assoc given (outputs_by old.no old.header.lease renewed) rest
-              ∙ ap (λ (xs : List Output). given ++ xs) (sym (one_gives old.no old.header.lease now view.agent after session first)) ∙ is.gives;
-          leaves = sym (one_leaves old.no old.header.lease now view.agent after session first) ∙ is.leaves;
-          same = ap (λ (a : AgentState). record a { agent = renewed.agent }) is.same;
-          closed = one_closed old.no old.header.lease now view.agent after session first ∙ is.closed;
-          drawn = omega (arith, fewer, is.drawn, one_drawn old.no old.header.lease now view.agent after session first);
-        }
-
     module _ (next : AgentState) (asked all : List Output) (later : next ≡ record view { agent = (one view.no view.header.lease now view.agent session).agent })
-        (gives : asked ≡ outputs_by view.no view.header.lease (one view.no view.header.lease now view.agent session)) (joined : all ≡ given ++ asked) where
+        (gives : asked ≡ outputs_by view.no view.header.lease (one view.no view.header.lease now view.agent session)) (joined : all ≡ given ++ asked)
+        (asks : All (FitsOutput view.header.f) asked) where
       abbrev by : AgentState → Reaction Row
       by a = one a.no a.header.lease now view.agent session
 
@@ -218,10 +205,24 @@ module _ (old view : AgentState) (now after : ℕ) (given : List Output) (is : I
       all_is : all ≡ given ++ outputs_by old.no old.header.lease renewed
       all_is = joined ∙ ap (λ (xs : List Output). given ++ xs) (gives ∙ ap (λ (a : AgentState). outputs_by a.no a.header.lease (by a)) is.same)
 
+      following_is : IsRenewing old following now session all
+      following_is =
+          let rest = outputs_by old.no old.header.lease (left old.no old.header.lease now renewed.agent session) in
+          record {
+            gives =
+                ap (λ (xs : List Output). xs ++ rest) all_is ∙ append_assoc given (outputs_by old.no old.header.lease renewed) rest
+                ∙ ap (λ (xs : List Output). given ++ xs) (sym (one_gives old.no old.header.lease now view.agent after session first)) ∙ is.gives;
+            leaves = sym (one_leaves old.no old.header.lease now view.agent after session first) ∙ is.leaves;
+            same = ap (λ (a : AgentState). record a { agent = renewed.agent }) is.same;
+            closed = one_closed old.no old.header.lease now view.agent after session first ∙ is.closed;
+            drawn = omega (arith, fewer, is.drawn, one_drawn old.no old.header.lease now view.agent after session first);
+            asks =
+                subst (All (FitsOutput old.header.f)) (sym joined)
+                (All-append (FitsOutput old.header.f) given asked is.asks (subst (λ (a : AgentState). All (FitsOutput a.header.f) asked) is.same asks));
+          }
+
       pub renewing_more : IsRenewing old next now session all
-      renewing_more =
-          subst (λ (a : AgentState). IsRenewing old a now session all) (sym next_is)
-          (subst (λ (xs : List Output). IsRenewing old following now session xs) (sym all_is) following_is)
+      renewing_more = subst (λ (a : AgentState). IsRenewing old a now session all) (sym next_is) following_is
 
       pub renewing_fewer : length (due now next.header.lease session next.agent.leases) < length (due now view.header.lease after view.agent.leases)
       renewing_fewer =
