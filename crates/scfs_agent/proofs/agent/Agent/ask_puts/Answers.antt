@@ -30,11 +30,6 @@ returns-clause-gives c =
     puts_give c.args.self.now _ c.self.view_is c.args.clouds.now c.in_ok-puts.puts c.in_ok-puts.ensures.numbers u c.in_ok-given.given
     (c.in_ok-given.ensures ∙ ap (λ (xs : List Asked). sent_outputs (sent_to (put_body u.row.upload u.unit) (asked_of xs))) c.as_slice.ensures)
 
-pub returns-clause-after : goal.returns-clause-after
-returns-clause-after c =
-    puts_after c.args.self.now _ c.self.view_is c.args.clouds.now c.in_ok-puts.puts c.in_ok-puts.ensures.numbers c.requires.free.closed c.args.upload
-    c.append.new.all c.len.result (c.in_ok-append.ensures ∙ ap (λ (xs : List Asked). c.args.upload.puts ++ xs) c.as_slice-2.ensures) c.len.ensures
-
 pub returns-clause-asks : goal.returns-clause-asks
 returns-clause-asks c =
     let u = c.args.upload in
