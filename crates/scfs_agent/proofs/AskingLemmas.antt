@@ -39,10 +39,3 @@ module _ (old v : AgentState) (view_is : v ≡ old) (clouds : List ℕ) (more : 
   fits body given e all =
       All-same (FitsOutput old.header.f) given _ (e ∙ ap (λ (xs : List machine.Asked). sent_outputs (sent_to body xs)) asked)
       (asked_fit old.header.f body old.no old.agent.incarnation old.agent.requests clouds all)
-
-  -- Puts
-  pub puts_give : (upload : Upload) (given : List Output)
-      → given ≡ sent_outputs (sent_to (put_body upload.row.upload upload.unit) (asked_of more))
-      → given ≡ outputs_of old (asks_puts (setup old) old.no (record old.agent { waiting = Some For_close }) (closed_of upload) (upload_of upload) clouds)
-  puts_give upload given e =
-      e ∙ ap (λ (xs : List machine.Asked). sent_outputs (sent_to (put_body upload.row.upload upload.unit) xs)) asked

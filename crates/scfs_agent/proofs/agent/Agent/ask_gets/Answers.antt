@@ -7,7 +7,7 @@ use Rattle.scfs_agent.specs.Outputs.{get_body, sent_outputs, sent_to}
 use Rattle.scfs_agent.specs.declared.work.Asked.{Asked}
 use Rattle.scfs_agent.proofs.ReadingLemmas.{gets_asked}
 use Rattle.scfs_agent.proofs.KeptLemmas.{kept_work}
-use Rattle.scfs_agent.proofs.AskingLemmas.{fits, gets_give, gets_after}
+use Rattle.scfs_agent.proofs.AskingLemmas.{fits}
 use Rattle.scfs_agent.proofs.agent.Agent.ask_gets.Goals as goal
 
 pub invariant_of-self : goal.invariant_of-self
