@@ -327,9 +327,9 @@ module _ (a : AgentState) (agent : Agent Row) (upload : Upload) (inputs : ℕ) (
       ap either (ap (λ (t : Bool). t && not (is_in c (acked_of upload.acks))) other)
 
 -- an upload whose tracker heard one acknowledgement more
-pub upload_more : (a incarnation f inputs : ℕ) (upload : Upload) (acks : Acks) (c : ℕ) → IsUpload a incarnation f inputs upload → c < 3 * f + 1
-    → acks ≡ with_ack upload.acks c 0 → IsUpload a incarnation f inputs (record upload { acks = acks })
-upload_more a incarnation f inputs upload acks c is l after = record {
+pub upload_more : (a incarnation f inputs : ℕ) (upload : Upload) (other : Acks) (c : ℕ) → IsUpload a incarnation f inputs upload → c < 3 * f + 1
+    → other ≡ with_ack upload.acks c 0 → IsUpload a incarnation f inputs (record upload { acks = other })
+upload_more a incarnation f inputs upload other c is l after = record {
   acks = ap (λ (x : Acks). x.f) after ∙ is.acks;
   part = ap (λ (x : Acks). length x.parts) after ∙ part_more f upload.acks c is.acks is.part;
   counted = subst (λ (x : Acks). count_of x ≡ length (acked_of x)) (sym after) (counted_more f upload.acks c is.acks is.part l is.counted);
