@@ -12,7 +12,6 @@ pub mod ToldLemmas
 pub mod HandingLemmas
 pub mod ReactedLemmas
 pub mod RankLemmas
-pub mod UploadLemmas
 pub mod WorkLemmas
 pub mod FitAskedLemmas
 pub mod ObeyLemmas
