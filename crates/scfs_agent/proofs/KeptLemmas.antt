@@ -234,55 +234,6 @@ module _ {header : Header} {no incarnation inputs requests opens files uploads :
       subst (All (λ (y : Pending). FitsAsking y.asking)) (sym left) (All-remove (λ (y : Pending). FitsAsking y.asking) pending at kept.fitting) in
       assumption (kept, calls, fitting)
 
-  counted_work : (w : Work) → IsWork no incarnation header.f inputs w → IsWork no incarnation header.f (inputs + 1) w
-  counted_work works.Down is = tt
-  counted_work works.Starting is = tt
-  counted_work works.Idle is = tt
-  counted_work works.Step is = tt
-  counted_work (works.Fetch fetch) is = is
-  counted_work (works.Upload upload) is =
-      record { acks = is.acks; part = is.part; counted = is.counted; turns = omega (arith, is.turns); closes = is.closes }
-
-  -- an input more
-  pub kept_counted : inputs < 1000000 → IsKept header no incarnation (inputs + 1) requests opens files uploads work sessions leases tallies pending
-  kept_counted room = record {
-    is_header = kept.is_header;
-    member = kept.member;
-    counted = omega (arith, room);
-    started = omega (arith, kept.started);
-    drawn = omega (arith, kept.drawn);
-    opened = omega (arith, kept.opened);
-    made = omega (arith, kept.made);
-    begun = omega (arith, kept.begun);
-    working = counted_work work kept.working;
-    bases = kept.bases;
-    leased = record { few = omega (arith, kept.leased.few); numbered = kept.leased.numbered };
-    tallied = record {
-      clouds = kept.tallied.clouds;
-      few =
-          All-weaker (λ (x : RankFacts). (x.good ≤ inputs) × (x.bad ≤ inputs)) (λ (x : RankFacts). (x.good ≤ inputs + 1) × (x.bad ≤ inputs + 1))
-          (λ x h. (omega (arith, h.0), omega (arith, h.1))) tallies kept.tallied.few;
-    };
-    waits = kept.waits;
-    fitting = kept.fitting;
-  }
-
-  may_turn : (w : Work) → IsWork no incarnation header.f inputs w → MayTurn (inputs + 1) (closed_in w)
-  may_turn works.Down is = tt
-  may_turn works.Starting is = tt
-  may_turn works.Idle is = tt
-  may_turn works.Step is = tt
-  may_turn (works.Fetch fetch) is = tt
-  may_turn (works.Upload upload) is = omega (arith, is.turns)
-
-  pub turns_counted : MayTurn (inputs + 1) (closed_in work)
-  turns_counted = may_turn work kept.working
-
-  pub room_counted : HaveRoom (inputs + 1) tallies
-  room_counted =
-      All-weaker (λ (x : RankFacts). (x.good ≤ inputs) × (x.bad ≤ inputs)) (λ (x : RankFacts). (x.good + 1 ≤ inputs + 1) × (x.bad + 1 ≤ inputs + 1))
-      (λ x h. (omega (arith, h.0), omega (arith, h.1))) tallies kept.tallied.few
-
 -- what it uploads may be completed
 pub closes_in : (a incarnation f inputs : ℕ) (w : Work) → IsWork a incarnation f inputs w
     → Each (λ (x : Closed Row). MayUpload a incarnation x.upload) (closed_in w)
@@ -292,11 +243,3 @@ closes_in a incarnation f inputs works.Idle is = tt
 closes_in a incarnation f inputs works.Step is = tt
 closes_in a incarnation f inputs (works.Fetch fetch) is = tt
 closes_in a incarnation f inputs (works.Upload upload) is = (is.closes, tt)
-
-pub one_closed : (w : Work) → OneBegun (closed_in w)
-one_closed works.Down = tt
-one_closed works.Starting = tt
-one_closed works.Idle = tt
-one_closed works.Step = tt
-one_closed (works.Fetch fetch) = tt
-one_closed (works.Upload upload) = refl

@@ -1,3 +1,4 @@
+pub mod Doing
 pub mod RenewalLemmas
 pub mod LeaseLemmas
 pub mod CloudLists
@@ -12,7 +13,6 @@ pub mod ToldLemmas
 pub mod HandingLemmas
 pub mod ReactedLemmas
 pub mod RankLemmas
-pub mod WorkLemmas
 pub mod FitAskedLemmas
 pub mod ObeyLemmas
 pub mod CallLemmas

@@ -36,8 +36,7 @@ use Rattle.scfs_model.specs.Steps.{On_sessions, Outcome, Of_names, Of_locks, Of_
 use Rattle.scfs_model.specs.Told.{told_open, name_answer}
 use Rattle.scfs_agent.specs.Views.{row_of}
 use Rattle.scfs_agent.specs.State.{AgentState, setup}
-use Rattle.scfs_agent.specs.Outputs.{outputs_of}
-use Rattle.scfs_agent.specs.declared.types.Output.{Output}
+use Rattle.scfs_agent.proofs.Doing.{did}
 use Rattle.scfs_agent.specs.Keeping.{IsRow}
 use Rattle.scfs_agent.specs.Telling.{IsTold, IsIts, FitsReply, is_open, outcome_step, pending_step, FitsSeen, sight_meant, open_step, stat_line}
 use Rattle.scfs_agent.proofs.StatLemmas.{stat_read}
@@ -159,10 +158,7 @@ lock_fits lease request true names h (Ok (Sees sight)) reply is fits done w = ab
 lock_fits lease request true names h (Ok (Locks sight l)) reply is fits done w = omega (arith, is.1, fits.1)
 lock_fits lease request true names h (Ok (Completes of it n)) reply is fits done w = absurd is
 
--- the outputs of a reaction, and how it leaves the agent
-abbrev pub did : AgentState → Reaction Row → List Output × AgentState
-did v r = (outputs_of v r, record v { agent = r.agent })
-
+-- an open that saw its version
 pub open_did : (old v : AgentState) (given : Given) (request : RequestNo) (writes : Bool) (names : List (List ℕ)) (h : ℕ) (r : OrRefusal (Session_outcome Row)) (reply : Reply)
     (seen : Sight) → IsSessionReply old.header.lease request (open_step writes names h) r reply → IsDone reply.result → seen ≡ sight_of reply.result
     → v ≡ record old { agent = with_lock writes old.agent h (reply.now + old.header.lease) }
