@@ -105,10 +105,6 @@ module _ (request : RequestNo) where
       → pending_step (map request_of xs) request ≡ Some (request_of x)
   taken_found xs at x place is = (taken xs at x (sym place) is).found
 
-  pub taken_left : (xs : List Pending) (at : ℕ) (x : Pending) → at ≡ first_place test (map request_of xs) → slice_get xs at ≡ Some x
-      → map request_of (remove xs at) ≡ without_first test (map request_of xs)
-  taken_left xs at x place is = (taken xs at x (sym place) is).left
-
   calls_by : (b : Bool) (y : Request Row) (ys : List (Request Row)) (x : Request Row) → cond b (Some y) (find test ys) ≡ Some x
       → (find test ys ≡ Some x → calls_in (without_first test ys) + cond (is_call x.step) 1 0 ≡ calls_in ys)
       → calls_in (if b then ys else y ∷ without_first test ys) + cond (is_call x.step) 1 0 ≡ cond (is_call y.step) 1 0 + calls_in ys
