@@ -1,4 +1,4 @@
-use Rattle.std.proofs.Common.{◌≡◌, ℕ, ◌+◌, ◌-◌, ◌<◌, ◌≤◌, ◌^◌, [], ◌∷◌, ◌++◌, List, length, eqb, Bool, true, false, ◌&&◌, Option, Some, None, refl, ap, ◌∙◌, sym, arith}
+use Rattle.std.proofs.Common.{◌≡◌, ℕ, ◌+◌, ◌-◌, ◌<◌, ◌≤◌, ◌^◌, [], ◌∷◌, ◌++◌, List, length, eqb, Option, Some, None, refl, ap, ◌∙◌, sym, arith}
 use Rattle.std.proofs.lemmas.Bool.{eqb-true}
 use Rattle.scfs_base.specs.declared.naming.RequestNo.{RequestNo}
 use Rattle.scfs_schedule.specs.declared.types.Kind.TheVariants.{File}
@@ -7,8 +7,8 @@ use Rattle.scfs_model.specs.Lists.{without_first}
 use Rattle.scfs_model.specs.Tree.{Node, Lock, Tree, node_at, session_lock, is_lock_by, is_node_at}
 use Rattle.scfs_model.specs.SessionSteps.{with_version}
 use Rattle.scfs_model.specs.Steps.{after_ok}
-use Rattle.scfs_anchor.specs.Tree.{Each, IsEntry, IsNode, IsVersion}
-use Rattle.scfs_anchor.specs.Items.{Item, Of_node, Of_version, Of_lock, row_said, node_said, entry_of, entries_of, nodes, versions, locks}
+use Rattle.scfs_anchor.specs.Tree.{Each, IsNode, IsVersion}
+use Rattle.scfs_anchor.specs.Items.{Item, Of_node, Of_version, Of_lock, row_said, node_said, nodes, versions, locks}
 use Rattle.scfs_anchor.specs.Holding.{IsClosing}
 use Rattle.scfs_anchor.proofs.Alike.{lock_that, node_that, opened_up, session_items}
 use Rattle.scfs_anchor.proofs.CommitStepLemmas.{completed, committed, AtFile, found_at, held_files}

@@ -16,7 +16,7 @@ use Rattle.scfs_model.specs.Steps.{Step, On_names, On_locks, On_sessions, Served
 use Rattle.scfs_anchor.specs.Shapes.{root}
 use Rattle.scfs_anchor.specs.Tree as anchor
 use Rattle.scfs_anchor.specs.Tree.{Each, Apart, IsEntry, IsTree}
-use Rattle.scfs_anchor.specs.Items.{Item, Of_node, Of_version, Of_lock, lock_said, entry_of, entries_of, space_of, nodes, versions, locks, tree_of, is_live, live}
+use Rattle.scfs_anchor.specs.Items.{Item, Of_node, Of_version, Of_lock, lock_said, entry_of, entries_of, space_of, nodes, locks, tree_of, is_live, live}
 use Rattle.scfs_anchor.specs.StepPlans.{step_on_tuples}
 use Rattle.scfs_anchor.specs.StepReplies.{IsReplyTo, FitsOutcome}
 use Rattle.scfs_anchor.specs.Holding.{IsAskable, IsRequest, IsFresh, LockFiles, HaveAtMost, ServesAlike, EmptyHolds, HoldsOn, StepsServeAlike}

@@ -1,25 +1,23 @@
-use Rattle.std.proofs.Common.{◌≡◌, ◌≢◌, ℕ, ◌+◌, ◌<◌, ◌^◌, List, [], ◌∷◌, ◌++◌, length, map, cond, eqb, Bool, true, false, Option, Some, None, Result, Ok, Err, refl, ap, ◌∙◌, sym, subst, arith, zero-add}
+use Rattle.std.proofs.Common.{◌≡◌, ◌≢◌, ℕ, ◌+◌, ◌<◌, ◌^◌, List, [], ◌∷◌, ◌++◌, length, cond, eqb, Bool, true, false, Option, Some, None, Result, Ok, Err, refl, ap, ◌∙◌, sym, arith, zero-add}
 use Rattle.std.specs.Prelude.{slice_get, codes}
 use Rattle.std.proofs.Math.Nat.{min-eq_left}
 use Rattle.std.proofs.lemmas.List.{map-append}
 use Rattle.scfs_base.specs.declared.naming.FileId.{FileId}
 use Rattle.scfs_schedule.specs.declared.types.Refusal.{Refusal}
 use Rattle.scfs_schedule.specs.declared.types.Refusal.TheVariants.{Locked}
-use Rattle.scfs_tuples.specs.After.{Passed, Failed, tested, need_none, result_of, left_by, reply_among, left_among, standing}
-use Rattle.scfs_tuples.specs.Matching.{Match, first_match, fits, agrees_with}
+use Rattle.scfs_tuples.specs.After.{Passed, tested, need_none, left_by, reply_among, left_among, standing}
+use Rattle.scfs_tuples.specs.Matching.{Match, first_match, fits}
 use Rattle.scfs_tuples.specs.declared.types.Cond.{Cond}
 use Rattle.scfs_tuples.specs.declared.types.Cond.TheVariants as conds
 use Rattle.scfs_tuples.specs.declared.types.Field.{Field}
 use Rattle.scfs_tuples.specs.declared.types.Field.TheVariants.{Num, Text}
 use Rattle.scfs_tuples.specs.declared.types.Step.{Step}
-use Rattle.scfs_tuples.specs.declared.types.StepResult.TheVariants.{Refused}
-use Rattle.scfs_tuples.specs.declared.types.Tuple.{Tuple}
 use Rattle.scfs_tuples.specs.declared.types.Want.TheVariants.{Any, Bind}
 use Rattle.scfs_anchor.specs.Shapes as shapes
 use Rattle.scfs_anchor.specs.Shapes.{root}
 use Rattle.scfs_anchor.specs.Plans.{Condition, step_of, open_write, reach, file, before_last, unlocked}
-use Rattle.scfs_anchor.specs.Replies.{refused_by, refusal_at, refusal_in}
-use Rattle.scfs_anchor.specs.Tree.{Node, Entry, OfNode, OfVersion, OfLock, OfDead, OfGone, Lock, tuple_of, tuples_of, live_entries, nodes_of, versions_of, locks_of, version_of, lock_on, file_at, sight_of, IsNode, IsTree}
+use Rattle.scfs_anchor.specs.Replies.{refused_by, refusal_at}
+use Rattle.scfs_anchor.specs.Tree.{Node, Entry, OfNode, OfVersion, OfLock, OfDead, OfGone, Lock, tuple_of, tuples_of, nodes_of, locks_of, lock_on, file_at, sight_of, IsNode, IsTree}
 use Rattle.scfs_anchor.specs.declared.seen.Sight.{Sight}
 use Rattle.scfs_anchor.proofs.StepLemmas.{conds_append}
 use Rattle.scfs_anchor.proofs.PathLemmas.{Comes, path_comes}

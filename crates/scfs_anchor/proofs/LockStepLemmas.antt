@@ -25,7 +25,7 @@ use Rattle.scfs_anchor.specs.Plans.{step_of}
 use Rattle.scfs_anchor.specs.Items.{Item, Of_node, Of_version, Of_lock, space_of, locks}
 use Rattle.scfs_anchor.specs.StepPlans.{lock_plan}
 use Rattle.scfs_anchor.specs.StepReplies.{HasTaken, IsLockReply}
-use Rattle.scfs_anchor.proofs.Alike.{lock_that, lock_items, LocksAlike, refused}
+use Rattle.scfs_anchor.proofs.Alike.{lock_that, LocksAlike, refused}
 use Rattle.scfs_anchor.proofs.ItemLemmas.{eqb_sym, space_append}
 use Rattle.scfs_anchor.proofs.ListLemmas.{both_true, found_passes}
 use Rattle.scfs_anchor.proofs.ItemMatches.{Meets, met, said, take_met, count_met, without_all_met, each_of}

@@ -1,33 +1,29 @@
-use Rattle.std.proofs.Common.{◌≡◌, ◌≢◌, ℕ, ◌+◌, ◌<◌, ◌≤◌, ◌^◌, List, [], ◌∷◌, ◌++◌, length, map, cond, eqb, Bool, true, false, ◌&&◌, Option, Some, None, Result, Ok, Err, zero, suc, refl, ap, ◌∙◌, sym, subst, arith, append_assoc, length-append, zero-add}
+use Rattle.std.proofs.Common.{◌≡◌, ◌≢◌, ℕ, ◌+◌, ◌<◌, ◌≤◌, ◌^◌, List, [], ◌∷◌, ◌++◌, length, map, eqb, Bool, true, false, ◌&&◌, Option, Some, None, Result, Ok, Err, refl, ap, ◌∙◌, sym, subst, arith, append_assoc, length-append, zero-add}
 use Rattle.std.specs.Prelude.{slice_get}
 use Rattle.std.specs.Option.{option_map, option_to_list}
 use Rattle.std.specs.Str.{bytes_eq}
-use Rattle.std.proofs.lemmas.Bool.Decides.{nat_tests}
 use Rattle.std.proofs.lemmas.List.{append-nil}
 use Rattle.scfs_base.specs.declared.naming.FileId.{FileId}
 use Rattle.scfs_schedule.specs.declared.types.Kind.{Kind}
 use Rattle.scfs_schedule.specs.declared.types.Kind.TheVariants.{File, Dir}
 use Rattle.scfs_schedule.specs.declared.types.Refusal.{Refusal}
-use Rattle.scfs_schedule.specs.declared.types.Refusal.TheVariants.{NoVersion, IsDir}
-use Rattle.scfs_tuples.specs.After.{Passed, Failed, tested, need, result_of, left_by, reply_among, left_among, is_live}
-use Rattle.scfs_tuples.specs.Matching.{Match, first_match, fits, row, want_agrees, agrees_with}
+use Rattle.scfs_schedule.specs.declared.types.Refusal.TheVariants.{IsDir}
+use Rattle.scfs_tuples.specs.After.{Passed, tested, result_of, left_by, reply_among, left_among}
+use Rattle.scfs_tuples.specs.Matching.{row, agrees_with}
 use Rattle.scfs_tuples.specs.declared.types.Cond.{Cond}
-use Rattle.scfs_tuples.specs.declared.types.Cond.TheVariants as conds
 use Rattle.scfs_tuples.specs.declared.types.Field.{Field}
 use Rattle.scfs_tuples.specs.declared.types.Field.TheVariants.{Num}
 use Rattle.scfs_tuples.specs.declared.types.Pattern.{Pattern}
 use Rattle.scfs_tuples.specs.declared.types.Reply.{Reply}
 use Rattle.scfs_model.specs.Walks.{on_ok}
 use Rattle.scfs_tuples.specs.declared.types.Step.{Step}
-use Rattle.scfs_tuples.specs.declared.types.StepResult.TheVariants.{Did, Refused}
-use Rattle.scfs_tuples.specs.declared.types.Tuple.{Tuple}
-use Rattle.scfs_tuples.specs.declared.types.Want.{Want}
+use Rattle.scfs_tuples.specs.declared.types.StepResult.TheVariants.{Did}
 use Rattle.scfs_tuples.specs.declared.types.Want.TheVariants.{Any, Bind}
 use Rattle.scfs_anchor.specs.Shapes as shapes
 use Rattle.scfs_anchor.specs.Shapes.{root}
-use Rattle.scfs_anchor.specs.Plans.{Condition, step_of, open_read, reach, file, before_last, wanted_version}
-use Rattle.scfs_anchor.specs.Replies.{version_tuple, lock_tuple, IfRow, ShowsSight, refused_by, refusal_at, refusal_in}
-use Rattle.scfs_anchor.specs.Tree.{Node, Entry, OfNode, OfVersion, OfLock, OfDead, OfGone, Lock, tuple_of, tuples_of, live_entries, nodes_of, versions_of, locks_of, version_of, lock_on, node_at, file_at, as_file, in_directory, if_file, held, sight_of, Each, IsEntry, IsNode, IsLock, IsTree, Apart, same_file}
+use Rattle.scfs_anchor.specs.Plans.{Condition, step_of, open_read, reach, file, before_last}
+use Rattle.scfs_anchor.specs.Replies.{version_tuple, lock_tuple, IfRow, ShowsSight, refusal_at}
+use Rattle.scfs_anchor.specs.Tree.{Node, Entry, OfNode, OfVersion, OfLock, OfDead, OfGone, Lock, tuple_of, tuples_of, nodes_of, versions_of, locks_of, version_of, lock_on, node_at, file_at, as_file, in_directory, if_file, held, sight_of, Each, IsEntry, IsNode, IsLock, IsTree, Apart, same_file}
 use Rattle.scfs_anchor.specs.StepReplies.{IsRefusal}
 use Rattle.scfs_anchor.specs.declared.seen.VersionRow.{VersionRow}
 use Rattle.scfs_anchor.specs.declared.seen.Sight.{Sight}

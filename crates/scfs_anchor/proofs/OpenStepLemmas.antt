@@ -15,7 +15,7 @@ use Rattle.scfs_anchor.specs.Plans.{step_of, open_read}
 use Rattle.scfs_anchor.specs.Tree as anchor
 use Rattle.scfs_anchor.specs.Tree.{Each, Apart, IsEntry, IsTree, tuples_of}
 use Rattle.scfs_anchor.specs.Replies.{ShowsSight}
-use Rattle.scfs_anchor.specs.Items.{Item, Of_node, Of_version, Of_lock, row_said, lock_said, entry_of, entries_of, space_of, versions, locks, tree_of}
+use Rattle.scfs_anchor.specs.Items.{Item, Of_node, Of_version, Of_lock, lock_said, entry_of, entries_of, space_of, versions, locks, tree_of}
 use Rattle.scfs_anchor.specs.StepPlans.{session_plan}
 use Rattle.scfs_anchor.specs.StepReplies.{sight_said, FitsVersion, FitsSight, FitsSessions}
 use Rattle.scfs_anchor.proofs.OpenLemmas.{AnswersSight, LocksApart, opens_at_tree, file_fits, FileFits}

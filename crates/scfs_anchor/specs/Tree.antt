@@ -1,4 +1,4 @@
-use Rattle.std.specs.Prelude.{◌≡◌, ℕ, ◌+◌, ◌^◌, ◌<◌, ◌≤◌, List, [], ◌∷◌, ◌++◌, codes, map, filter, find, Option, Some, None, MatchOption, Result, Ok, Err, Bool, true, false, ◌&&◌, ◌==◌, zero, suc}
+use Rattle.std.specs.Prelude.{◌≡◌, ℕ, ◌^◌, ◌<◌, ◌≤◌, List, [], ◌∷◌, codes, map, filter, find, Option, Some, None, MatchOption, Result, Ok, Err, Bool, true, false, ◌&&◌, ◌==◌, zero, suc}
 use Rattle.std.specs.List.{filter_map, list_any}
 use Rattle.std.specs.Option.{option_map}
 use Rattle.std.specs.Str.{bytes_eq}
@@ -7,7 +7,7 @@ use Rattle.scfs_base.specs.declared.naming.UploadNo.{UploadNo}
 use Rattle.scfs_schedule.specs.declared.types.Kind.{Kind}
 use Rattle.scfs_schedule.specs.declared.types.Kind.TheVariants.{File, Dir}
 use Rattle.scfs_schedule.specs.declared.types.Refusal.{Refusal}
-use Rattle.scfs_schedule.specs.declared.types.Refusal.TheVariants.{NoEntry, NotDir, IsDir, NoVersion, Locked}
+use Rattle.scfs_schedule.specs.declared.types.Refusal.TheVariants.{NoEntry, NotDir, IsDir}
 use Rattle.scfs_tuples.specs.After.{is_live}
 use Rattle.scfs_tuples.specs.declared.types.Field.TheVariants.{Num, Text}
 use Rattle.scfs_tuples.specs.declared.types.Tuple.{Tuple}
