@@ -72,7 +72,8 @@ came_stays now most items request session v is low closing l n e at =
     let node = each_found (λ m. IsNode (node_said m)) test (nodes items) (nodes_fit now items is.fit) n e in
     let close : Close test (nodes items) (versions items) n w =
     record { whole = s.whole; found = e; file = at.1; id = sym at.0; number = omega arith } in
-    let gone = without_node test unlocked ∙ ap (λ (t : Tree Row). tree_with (without_first test t.nodes) t.locks t.versions) (without_lock own items) in
+    let gone = without_node test unlocked
+    ∙ ap (λ (t : Tree Row). tree_with (without_first test t.nodes) t.locks t.versions) (without_lock own items) in
     record {
       fit =
           each_append (Fits now) left put (each_without (Fits now) (node_that test) unlocked (each_without (Fits now) (lock_that own) items is.fit))

@@ -63,7 +63,8 @@ file_items file (Of_version v ∷ items) h = (tt, file_items file items h)
 file_items file (Of_lock l ∷ items) h = (tt, file_items file items h)
 
 -- the pattern of a file's node meets it, and no other item
-node_meets : (file : FileId) (base : ℕ) (x : Item) → IsFileIn file x → Meets (node_wants file base) [] (node_that (is_node_at file base)) binds_place x
+node_meets : (file : FileId) (base : ℕ) (x : Item) → IsFileIn file x
+    → Meets (node_wants file base) [] (node_that (is_node_at file base)) binds_place x
 node_meets file base (Of_version v) h = refl
 node_meets file base (Of_lock l) h = refl
 node_meets file base (Of_node n) h = here (eqb file.0 n.id.0) (eqb base n.newest) refl refl where

@@ -70,14 +70,16 @@ module _ (keeps : Item → Bool) (test : Lock → Bool) (node : (n : Node) → k
     here false e rest = rw (lock l, e) rest
 
 -- with a lock behind
-pub lock_behind : (items : List Item) (l : Lock) → tree_of (items ++ Of_lock l ∷ []) ≡ tree_with (nodes items) (locks items ++ l ∷ []) (versions items)
+pub lock_behind : (items : List Item) (l : Lock)
+    → tree_of (items ++ Of_lock l ∷ []) ≡ tree_with (nodes items) (locks items ++ l ∷ []) (versions items)
 lock_behind items l =
     same_tree _ _ _ _ _ _ (filter_map-append node_of items (Of_lock l ∷ []) ∙ append-nil (nodes items))
     (filter_map-append lock_of items (Of_lock l ∷ []))
     (filter_map-append version_of items (Of_lock l ∷ []) ∙ append-nil (versions items))
 
 -- with a node behind
-pub node_behind : (items : List Item) (n : Node) → tree_of (items ++ Of_node n ∷ []) ≡ tree_with (nodes items ++ n ∷ []) (locks items) (versions items)
+pub node_behind : (items : List Item) (n : Node)
+    → tree_of (items ++ Of_node n ∷ []) ≡ tree_with (nodes items ++ n ∷ []) (locks items) (versions items)
 node_behind items n =
     same_tree _ _ _ _ _ _ (filter_map-append node_of items (Of_node n ∷ []))
     (filter_map-append lock_of items (Of_node n ∷ []) ∙ append-nil (locks items))

@@ -25,7 +25,8 @@ use Rattle.scfs_anchor.proofs.Alike.{refused}
 use Rattle.scfs_anchor.proofs.OpenLemmas.{AnswersSight, LocksApart, FileFits, LockFits, file_fits, lock_fits, id_bound, conds_of, passed_shows}
 
 -- how the pattern of a lock meets one
-lock_meets : (bound : List Field) (a i : ℕ) → slice_get bound a ≡ Some (Num i) → (l : Lock) (t : Bool) → eqb i l.file.0 ≡ t → fits (shapes.lock (Bind a) Any Any Any).wants (tuple_of (OfLock l)).fields bound ≡ cond t (Some bound) None
+lock_meets : (bound : List Field) (a i : ℕ) → slice_get bound a ≡ Some (Num i) → (l : Lock) (t : Bool) → eqb i l.file.0 ≡ t
+    → fits (shapes.lock (Bind a) Any Any Any).wants (tuple_of (OfLock l)).fields bound ≡ cond t (Some bound) None
 lock_meets bound a i is l true e = rw (is, e) refl
 lock_meets bound a i is l false e = rw (is, e) refl
 
@@ -34,14 +35,18 @@ met_lock bound None = None
 met_lock bound (Some l) = Some (record { tuple = tuple_of (OfLock l); bound = bound })
 
 -- the lock on the file is met, where there is one
-first_lock : (bound : List Field) (a : ℕ) (id : FileId) → slice_get bound a ≡ Some (Num id.0) → (es : List Entry) → first_match (shapes.lock (Bind a) Any Any Any).wants (tuples_of es) bound ≡ met_lock bound (lock_on (locks_of es) id)
+first_lock : (bound : List Field) (a : ℕ) (id : FileId) → slice_get bound a ≡ Some (Num id.0) → (es : List Entry)
+    → first_match (shapes.lock (Bind a) Any Any Any).wants (tuples_of es) bound ≡ met_lock bound (lock_on (locks_of es) id)
 first_lock bound a id is [] = refl
 first_lock bound a id is (OfNode n ∷ es) = first_lock bound a id is es
 first_lock bound a id is (OfVersion r ∷ es) = first_lock bound a id is es
 first_lock bound a id is (OfDead u ∷ es) = first_lock bound a id is es
 first_lock bound a id is (OfGone g ∷ es) = first_lock bound a id is es
 first_lock bound a id is (OfLock l ∷ es) = here (eqb id.0 l.file.0) refl (first_lock bound a id is es) where
-  here : (t : Bool) → eqb id.0 l.file.0 ≡ t → first_match (shapes.lock (Bind a) Any Any Any).wants (tuples_of es) bound ≡ met_lock bound (lock_on (locks_of es) id) → first_match (shapes.lock (Bind a) Any Any Any).wants (tuples_of (OfLock l ∷ es)) bound ≡ met_lock bound (lock_on (locks_of (OfLock l ∷ es)) id)
+  here : (t : Bool) → eqb id.0 l.file.0 ≡ t
+      → first_match (shapes.lock (Bind a) Any Any Any).wants (tuples_of es) bound ≡ met_lock bound (lock_on (locks_of es) id)
+      → first_match (shapes.lock (Bind a) Any Any Any).wants (tuples_of (OfLock l ∷ es)) bound
+      ≡ met_lock bound (lock_on (locks_of (OfLock l ∷ es)) id)
   here true e rest = rw (lock_meets bound a id.0 is l true e, e) refl
   here false e rest = rw (lock_meets bound a id.0 is l false e, e) rest
 
@@ -75,7 +80,8 @@ LocksAt now es step new (Ok n) =
 LocksAt now es step new (Err why) =
     AnswersSight step (reply_among (tuples_of es) now step) (Err why) × (left_among (tuples_of es) now step ≡ tuples_of es)
 
-module _ (now : ℕ) (es : List Entry) (names : List (List ℕ)) (agent incarnation session lease : ℕ) (tree : IsTree now es) (apart : LocksApart es) where
+module _ (now : ℕ) (es : List Entry) (names : List (List ℕ)) (agent incarnation session lease : ℕ) (tree : IsTree now es)
+    (apart : LocksApart es) where
   abbrev step : Step
   step = step_of (open_write names agent incarnation session lease)
 

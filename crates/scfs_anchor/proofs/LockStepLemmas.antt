@@ -65,7 +65,8 @@ own_lock_meets request file session (Of_lock l) =
     ∙ ap (λ o. cond file_is o None) (number_first request.agent l.agent (number request.incarnation ∷ last) (Num l.incarnation ∷ field)
     ∙ ap (λ o. cond agent_is o None) (number_first request.incarnation l.incarnation last field
     ∙ ap (λ o. cond incarnation_is o None) (number_first session l.session [] [])))
-    ∙ both file_is agent_is _ ∙ both (file_is && agent_is) incarnation_is _ ∙ both (file_is && agent_is && incarnation_is) (eqb l.session session) (Some [])
+    ∙ both file_is agent_is _ ∙ both (file_is && agent_is) incarnation_is _
+    ∙ both (file_is && agent_is && incarnation_is) (eqb l.session session) (Some [])
 
 pub lock_meets : (request : RequestNo) (file : FileId) (session agent incarnation : ℕ) → agent ≡ request.agent → incarnation ≡ request.incarnation
     → (x : Item) → Meets (lock_wants file agent incarnation session) [] (lock_that (is_lock_by request file session)) binds_none x
@@ -75,7 +76,8 @@ lock_meets request file session agent incarnation e f x =
     (own_lock_meets request file session x))
 
 -- the pattern of an agent's locks meets them, and no other item
-agent_meets : (request : RequestNo) (x : Item) → Meets (lock Any (number request.agent) Any Any).wants [] (lock_that (frees request Unlock_all)) binds_none x
+agent_meets : (request : RequestNo) (x : Item)
+    → Meets (lock Any (number request.agent) Any Any).wants [] (lock_that (frees request Unlock_all)) binds_none x
 agent_meets request (Of_node n) = refl
 agent_meets request (Of_version v) = refl
 agent_meets request (Of_lock l) = number_first request.agent l.agent (Any ∷ Any ∷ []) (Num l.incarnation ∷ Num l.session ∷ [])
@@ -181,7 +183,8 @@ renewed_alike now lease items request file session (Some l) e =
 pub locks_alike : (now lease : ℕ) (items : List Item) (request : RequestNo) (x : Lock_step)
     → LocksAlike now lease items request x (lock_outcome (locks items) (now + lease) request x)
 locks_alike now lease items request (Unlock file session) =
-    taken now items (lock_wants file request.agent request.incarnation session) (is_lock_by request file session) (own_lock_meets request file session)
+    taken now items (lock_wants file request.agent request.incarnation session) (is_lock_by request file session)
+    (own_lock_meets request file session)
 locks_alike now lease items request Unlock_all =
     taken now items (lock Any (number request.agent) Any Any).wants (frees request Unlock_all) (agent_meets request)
 locks_alike now lease items request (Renew file session) =

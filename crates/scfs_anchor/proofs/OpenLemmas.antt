@@ -53,7 +53,8 @@ row_fits now id v (OfLock l ∷ es) h = row_fits now id v es h.1
 row_fits now id v (OfDead u ∷ es) h = row_fits now id v es h.1
 row_fits now id v (OfGone g ∷ es) h = row_fits now id v es h.1
 row_fits now id v (OfVersion r ∷ es) h = here (eqb id.0 r.id.0 && eqb v r.number) refl (row_fits now id v es h.1) where
-  here : (t : Bool) → eqb id.0 r.id.0 && eqb v r.number ≡ t → RowFits (version_of (versions_of es) id v) → RowFits (version_of (versions_of (OfVersion r ∷ es)) id v)
+  here : (t : Bool) → eqb id.0 r.id.0 && eqb v r.number ≡ t → RowFits (version_of (versions_of es) id v)
+      → RowFits (version_of (versions_of (OfVersion r ∷ es)) id v)
   here true e rest = rw e h.0.fits
   here false e rest = rw e rest
 
@@ -84,7 +85,8 @@ node_fits now d name (OfLock l ∷ es) h = node_fits now d name es h.1
 node_fits now d name (OfDead u ∷ es) h = node_fits now d name es h.1
 node_fits now d name (OfGone g ∷ es) h = node_fits now d name es h.1
 node_fits now d name (OfNode n ∷ es) h = here (eqb d n.parent.0 && bytes_eq name n.name) refl (node_fits now d name es h.1) where
-  here : (t : Bool) → eqb d n.parent.0 && bytes_eq name n.name ≡ t → NodeFits (node_at (nodes_of es) d name) → NodeFits (node_at (nodes_of (OfNode n ∷ es)) d name)
+  here : (t : Bool) → eqb d n.parent.0 && bytes_eq name n.name ≡ t → NodeFits (node_at (nodes_of es) d name)
+      → NodeFits (node_at (nodes_of (OfNode n ∷ es)) d name)
   here true e rest = rw e h.0
   here false e rest = rw e rest
 
@@ -110,30 +112,40 @@ way_fits (Some n) reach h = kinds n.kind refl where
 pub file_fits : (now : ℕ) (es : List Entry) → Each (IsEntry now) es → (names : List (List ℕ)) (d : ℕ) → FileFits (file_at (nodes_of es) d names)
 file_fits now es h [] d = tt
 file_fits now es h (name ∷ []) d = last_fits (node_at (nodes_of es) d name) (node_fits now d name es h)
-file_fits now es h (name ∷ next ∷ names) d = way_fits (node_at (nodes_of es) d name) (λ b. file_at (nodes_of es) b (next ∷ names)) (λ b. file_fits now es h (next ∷ names) b)
+file_fits now es h (name ∷ next ∷ names) d = way_fits (node_at (nodes_of es) d name) (λ b. file_at (nodes_of es) b (next ∷ names))
+    (λ b. file_fits now es h (next ∷ names) b)
 
 -- a reply with the tuples of a version and a lock shows the sight
-pub shows : (reply : Reply) (before : List Field) (n : Node) (row : Option VersionRow) (lock : Option Lock) → n.newest < 2 ^ 32 → IfRow row → LockFits n.id lock → reply.result ≡ Did (before ++ Num n.id.0 ∷ Num n.newest ∷ []) 0 (map version_tuple (option_to_list row) ∷ map (λ l. tuple_of (OfLock l)) (option_to_list lock) ∷ []) → ShowsSight reply (record { id = n.id; newest = n.newest; row = row; lock = option_map held lock })
+pub shows : (reply : Reply) (before : List Field) (n : Node) (row : Option VersionRow) (lock : Option Lock) → n.newest < 2 ^ 32 → IfRow row
+    → LockFits n.id lock → reply.result
+    ≡ Did (before ++ Num n.id.0 ∷ Num n.newest ∷ []) 0
+    (map version_tuple (option_to_list row) ∷ map (λ l. tuple_of (OfLock l)) (option_to_list lock) ∷ [])
+    → ShowsSight reply (record { id = n.id; newest = n.newest; row = row; lock = option_map held lock })
 shows reply before n row None small fit locked is = record { before = before; until = None; result = is; newest = small; row = fit; lock = tt }
 shows reply before n row (Some l) small fit locked is =
     record {
       before = before;
       until = l.until;
-      result = is ∙ ap (λ (i : ℕ). Did (before ++ Num n.id.0 ∷ Num n.newest ∷ []) 0 (map version_tuple (option_to_list row) ∷ (lock_tuple (record { 0 = i }) (held l) l.until ∷ []) ∷ [])) (sym locked.1);
+      result = is ∙ ap (λ (i : ℕ). Did (before ++ Num n.id.0 ∷ Num n.newest ∷ []) 0
+          (map version_tuple (option_to_list row) ∷ (lock_tuple (record { 0 = i }) (held l) l.until ∷ []) ∷ [])) (sym locked.1);
       newest = small;
       row = fit;
       lock = record { agent = locked.0.agent; incarnation = let few : l.incarnation < 2 ^ 24 = locked.0.incarnation in omega arith };
     }
 
 -- the variables of a file that was reached
-pub id_bound : (before : List Field) (n : Node) (a : ℕ) → length before ≡ a → slice_get (before ++ Num n.id.0 ∷ Num n.newest ∷ []) a ≡ Some (Num n.id.0)
-id_bound before n a size = subst (λ (k : ℕ). slice_get (before ++ Num n.id.0 ∷ Num n.newest ∷ []) k ≡ Some (Num n.id.0)) size (at_end before (Num n.newest ∷ []) (Num n.id.0))
+pub id_bound : (before : List Field) (n : Node) (a : ℕ) → length before ≡ a
+    → slice_get (before ++ Num n.id.0 ∷ Num n.newest ∷ []) a ≡ Some (Num n.id.0)
+id_bound before n a size = subst (λ (k : ℕ). slice_get (before ++ Num n.id.0 ∷ Num n.newest ∷ []) k
+    ≡ Some (Num n.id.0)) size (at_end before (Num n.newest ∷ []) (Num n.id.0))
 
-pub newest_bound : (before : List Field) (n : Node) (a : ℕ) → length before ≡ a → slice_get (before ++ Num n.id.0 ∷ Num n.newest ∷ []) (a + 1) ≡ Some (Num n.newest)
+pub newest_bound : (before : List Field) (n : Node) (a : ℕ) → length before ≡ a
+    → slice_get (before ++ Num n.id.0 ∷ Num n.newest ∷ []) (a + 1) ≡ Some (Num n.newest)
 newest_bound before n a size =
     let b = before ++ Num n.id.0 ∷ [] in
     let place : length b ≡ a + 1 = simp length-append (omega arith) in
-    let found : slice_get (b ++ Num n.newest ∷ []) (a + 1) ≡ Some (Num n.newest) = subst (λ (k : ℕ). slice_get (b ++ Num n.newest ∷ []) k ≡ Some (Num n.newest)) place (at_end b [] (Num n.newest)) in
+    let found : slice_get (b ++ Num n.newest ∷ []) (a + 1)
+    ≡ Some (Num n.newest) = subst (λ (k : ℕ). slice_get (b ++ Num n.newest ∷ []) k ≡ Some (Num n.newest)) place (at_end b [] (Num n.newest)) in
     subst (λ (l : List Field). slice_get l (a + 1) ≡ Some (Num n.newest)) (append_assoc before (Num n.id.0 ∷ []) (Num n.newest ∷ [])) found
 
 -- a step that passes shows the newest version of the file, and the lock
