@@ -19,6 +19,7 @@ use Rattle.scfs_model.specs.Closes.{with_storing, stores, upload_hears, upload_t
 use Rattle.scfs_model.specs.Layers.{Row}
 use Rattle.scfs_model.specs.States.{Reply}
 use Rattle.scfs_laws.specs.Held.{Version_seen, Agent_seen}
+use Rattle.scfs_laws.proofs.NewestLists.{length-put}
 use Rattle.scfs_laws.proofs.HeldSeats.{latest, IsRow, busy_asked, busy_replied, Seated}
 use Rattle.scfs_laws.proofs.HeldSteps.{none_asked, all_idle, any_change, loose_change}
 use Rattle.scfs_laws.proofs.HeldLines.{Does}
@@ -27,15 +28,6 @@ use Rattle.scfs_laws.proofs.HeldDoing.{at, seat_of, silent_does, asks_does, afte
 -- the agent whose one closed session is uploaded so
 abbrev pub uploading : Agent Row → Closed Row → Upload Row → Agent Row
 uploading agent x u = at agent (Some For_close) ((record x { upload = Some u }) ∷ [])
-
--- a number put into a list makes it one longer
-put_within : (n m : ℕ) (ms rest : List ℕ) (b : Bool) → length rest ≡ length ms + 1 → length (cond b (n ∷ m ∷ ms) (m ∷ rest)) ≡ length (m ∷ ms) + 1
-put_within n m ms rest true longer = omega arith
-put_within n m ms rest false longer = omega (arith, longer)
-
-pub length-put : (n : ℕ) (ms : List ℕ) → length (put_by_number n ms) ≡ length ms + 1
-length-put n [] = refl
-length-put n (m ∷ ms) = put_within n m ms (put_by_number n ms) (nat_lt n m) (length-put n ms)
 
 -- an upload that is stored further
 pub record IsFurther (s : Setup) (u later : Upload Row) : Type 0 where

@@ -38,6 +38,7 @@ pub mod HeldKeeping
 pub mod HeldPlaces
 pub mod HeldReads
 mod HeldPlayed
+pub mod Moves
 mod NewestLists
 mod NewestDraws
 mod NewestKept

@@ -1,7 +1,7 @@
 -- Lists: what holds of each item, and of each two; seats by their numbers.
-use Rattle.std.proofs.Common.{◌≡◌, ℕ, zero, suc, List, [], ◌∷◌, ◌++◌, replicate, Bool, true, false, cond, sym, subst, Option, Some, slice_get, slice_set, find, filter, Contains, eqb, arith}
+use Rattle.std.proofs.Common.{◌≡◌, ℕ, ◌+◌, zero, suc, length, nat_lt, refl, List, [], ◌∷◌, ◌++◌, replicate, Bool, true, false, cond, sym, subst, Option, Some, slice_get, slice_set, find, filter, Contains, eqb, arith}
 use Rattle.std.proofs.lemmas.Bool.Decides.{nat_tests}
-use Rattle.scfs_model.specs.Lists.{without_first, moved_back}
+use Rattle.scfs_model.specs.Lists.{without_first, moved_back, put_by_number}
 
 -- what holds of each item
 abbrev pub Each : {X : Type 0} → (X → Type 0) → List X → Type 0
@@ -148,3 +148,12 @@ places_replicate P (suc n) x each (suc a) y h = places_replicate (λ m. P (suc m
 pub pairs-join : {X : Type 0} (R : X → X → Type 0) (xs ys : List X) → Pairs R xs → Pairs R ys → Each (λ x. Each (R x) ys) xs → Pairs R (xs ++ ys)
 pairs-join R [] ys h k across = k
 pairs-join R (x ∷ xs) ys h k across = (each-append (R x) xs ys h.0 across.0, pairs-join R xs ys h.1 k across.1)
+
+-- a number put into a list makes it one longer
+put_within : (n m : ℕ) (ms rest : List ℕ) (b : Bool) → length rest ≡ length ms + 1 → length (cond b (n ∷ m ∷ ms) (m ∷ rest)) ≡ length (m ∷ ms) + 1
+put_within n m ms rest true longer = omega arith
+put_within n m ms rest false longer = omega (arith, longer)
+
+pub length-put : (n : ℕ) (ms : List ℕ) → length (put_by_number n ms) ≡ length ms + 1
+length-put n [] = refl
+length-put n (m ∷ ms) = put_within n m ms (put_by_number n ms) (nat_lt n m) (length-put n ms)
