@@ -39,6 +39,7 @@ pub mod HeldPlaces
 pub mod HeldReads
 mod HeldPlayed
 pub mod Moves
+pub mod Ways
 mod NewestLists
 mod NewestDraws
 mod NewestKept

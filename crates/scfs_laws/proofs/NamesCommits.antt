@@ -49,11 +49,13 @@ module _ {V : Type 0} (s : Setup) (vs : Versions V) (keeps : CompletionKeeps vs)
   held_step tree now lease request (On_names x) = held_name tree request (name_outcome tree.nodes x)
   held_step tree now lease request (On_locks x) = held_lock tree request (lock_outcome tree.locks (now + lease) request x)
   held_step tree now lease request (On_sessions x) =
-      session_cases vs tree now (now + lease) request (λ n. Unit {0}) (each-always _ (λ n. tt) tree.nodes)
-      (λ r. LineHeld tree (line_of request (session_line vs) r)) (λ why. tt)
-      (λ n q. tt) (λ session n q free. tt)
-      (λ session v l n locked found.
-      (session, (l, rw (keeps.file v now) locked), (n, rw (keeps.file v now, keeps.number v now) found)))
+      session_cases vs tree now (now + lease) request (λ y r. LineHeld tree (line_of request (session_line vs) r)) (λ y why. tt)
+      (record {
+        sees = λ names session n there. tt;
+        locks = λ names session n there free. tt;
+        completes = λ session v l n locked found.
+            (session, (l, rw (keeps.file v now) locked), (n, rw (keeps.file v now, keeps.number v now) found));
+      })
       x
 
   held_comes : (tree : Tree V) (state : State V) (given : Given) (a : ℕ) (seat : Seat V) (before : List Line) (input : Input V) → Each IsIdle before

@@ -12,7 +12,7 @@ use Rattle.scfs_model.specs.SessionSteps.{session_after, new_lock}
 use Rattle.scfs_model.specs.Steps.{Step, On_names, On_locks, On_sessions, after_ok, served}
 use Rattle.scfs_model.specs.Runs.{state_after}
 use Rattle.scfs_laws.specs.TreeLaws.{LocksAlone}
-use Rattle.scfs_laws.proofs.NewestLists.{Pairs, eqb-comm, each-map, each-always, pairs-append, pairs-without, pairs-filter, pairs-found}
+use Rattle.scfs_laws.proofs.NewestLists.{Pairs, eqb-comm, each-map, pairs-append, pairs-without, pairs-filter, pairs-found}
 use Rattle.scfs_laws.proofs.NamesSteps.{session_cases}
 use Rattle.scfs_laws.proofs.NamesEvents.{tree_always}
 use Rattle.scfs_laws.proofs.NamesApart.{fails_at_each, finds_nothing}
@@ -63,11 +63,12 @@ module _ {V : Type 0} (s : Setup) (vs : Versions V) where
   locks_step tree now lease request (On_sessions x) h =
       let t : Tree V = live now tree in
       let g : AllAlone t = live_alone now tree h in
-      session_cases vs t now (now + lease) request (λ n. Unit {0}) (each-always _ (λ n. tt) t.nodes)
-      (λ r. AllAlone (after_ok t (session_after vs t request) r)) (λ why. g)
-      (λ n q. g)
-      (λ session n q free. locked_alone t.locks (new_lock request session (now + lease) n.id) g free)
-      (λ session v l n locked found. pairs-without FilesApart (is_lock_by request (vs.file (vs.completed v now)) session) t.locks g)
+      session_cases vs t now (now + lease) request (λ y r. AllAlone (after_ok t (session_after vs t request) r)) (λ y why. g)
+      (record {
+        sees = λ names session n there. g;
+        locks = λ names session n there free. locked_alone t.locks (new_lock request session (now + lease) n.id) g free;
+        completes = λ session v l n locked found. pairs-without FilesApart (is_lock_by request (vs.file (vs.completed v now)) session) t.locks g;
+      })
       x
 
   -- in the live tree of every history no file has two locks
