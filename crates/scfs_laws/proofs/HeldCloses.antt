@@ -1,5 +1,5 @@
 -- Uploads of closed sessions leave what is seen of an agent tied to its seat.
-use Rattle.std.proofs.Common.{◌≡◌, ℕ, ◌+◌, ◌≤◌, List, [], ◌∷◌, ◌++◌, length, refl, sym, subst, arith, Bool, true, false, cond, nat_le, nat_lt, leb-true, le-leb, eqb-true, Some, None, filter, not}
+use Rattle.std.proofs.Common.{◌≡◌, ℕ, ◌+◌, ◌≤◌, List, [], ◌∷◌, ◌++◌, length, refl, sym, subst, arith, Bool, true, false, cond, nat_le, leb-true, le-leb, eqb-true, Some, None, filter, not}
 use Rattle.std.specs.Prelude.{◌==◌}
 use Rattle.scfs_base.specs.declared.naming.RequestNo.{RequestNo}
 use Rattle.scfs_base.specs.declared.cloud.CloudAnswer.{CloudAnswer}
@@ -7,7 +7,7 @@ use Rattle.scfs_base.specs.declared.cloud.CloudRequest.TheVariants as requests
 use Rattle.scfs_schedule.specs.declared.types.Event.{Event}
 use Rattle.scfs_base.specs.Limits.{turns_limit}
 use Rattle.scfs_model.specs.Leases.{unleased}
-use Rattle.scfs_model.specs.Lists.{below, is_in, put_by_number}
+use Rattle.scfs_model.specs.Lists.{below, is_in}
 use Rattle.scfs_model.specs.Format.{Setup, clouds_of, enough, object_at}
 use Rattle.scfs_model.specs.Next.{Goes_on, Asks, Has, Gives_up}
 use Rattle.scfs_model.specs.Storing.{is_enough, with_ack, store_on, is_new_ack}

@@ -10,7 +10,7 @@ use Rattle.scfs_model.specs.Agents.{Request, Agent, Input, Calls, Tells, Hears, 
 use Rattle.scfs_model.specs.Reactions.{reacted}
 use Rattle.scfs_model.specs.Layers.{Row, rows}
 use Rattle.scfs_laws.proofs.NewestLists.{Each, each-map, each-append}
-use Rattle.scfs_laws.proofs.Moves.{Known, IsReply, IsInput, Moves, reacts}
+use Rattle.scfs_laws.proofs.Moves.{Known, IsReply, Moves, reacts}
 
 module _ (s : Setup) (a : ℕ) where
   -- a request of this incarnation

@@ -51,7 +51,7 @@ mod NamesSteps
 mod NamesApart
 mod NamesLocks
 mod NewestLines
-mod NamesCommits
+mod Fenced
 mod NewestVersions
 mod NewestTree
 mod NewestServes

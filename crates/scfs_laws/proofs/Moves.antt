@@ -29,7 +29,7 @@ use Rattle.scfs_model.specs.SessionSteps.{Session_step, Open_read, Open_write, C
 use Rattle.scfs_model.specs.Steps.{Step, On_names, On_locks, On_sessions, Outcome, Of_names, Of_locks, Of_sessions}
 use Rattle.scfs_model.specs.Next.{Next, Goes_on, Asks, Has, Gives_up}
 use Rattle.scfs_model.specs.Reading.{is_awaited, piece_in, with_piece, read_on, read_turn}
-use Rattle.scfs_model.specs.Storing.{is_enough, is_new_ack, with_ack, store_on, store_turn}
+use Rattle.scfs_model.specs.Storing.{is_enough, is_new_ack, with_ack, store_on}
 use Rattle.scfs_model.specs.Sayings.{Saying}
 use Rattle.scfs_model.specs.Sayings as says
 use Rattle.scfs_model.specs.Agents.{Opening, Waiting, For_step, For_clouds, For_close, Upload, Closed, Agent, Input, Calls, Tells, Hears, Turns, Crashes, Starts, Reaction, silent, saying, answered, followed, asks_step}
@@ -37,8 +37,8 @@ use Rattle.scfs_model.specs.Leases.{leased, unleased, file_of, renews, renews_al
 use Rattle.scfs_model.specs.Opens as Opens
 use Rattle.scfs_model.specs.Opens.{Found, As_empty, On_clouds, found, tallied, session_on, opened, asks_gets, begins_open, sighted, saw, gives_up, reads, open_hears, open_turns}
 use Rattle.scfs_model.specs.Closes.{goes_on, with_storing, asks_puts, falls_short, stores, upload_hears, upload_turns, begins}
-use Rattle.scfs_model.specs.Calls.{any_names, path_names, with_session, with_room, refuse, unless_refused, calls_step, opens, close, called, call_of}
-use Rattle.scfs_model.specs.Told.{name_answer, is_pending, untold, told_locks, told_open, told_closed, told_commit, told, tells}
+use Rattle.scfs_model.specs.Calls.{any_names, path_names, with_session, unless_refused, calls_step, opens, close, called, call_of}
+use Rattle.scfs_model.specs.Told.{is_pending, untold, told_locks, told_open, told_closed, told_commit, told}
 use Rattle.scfs_model.specs.Reactions.{next_life, idle, to_open, to_closed, to_upload, to_work, crashes, responded, begun, next_begun, reacted}
 use Rattle.scfs_laws.proofs.NewestLists.{Each, each-map, each-filter, length-put}
 

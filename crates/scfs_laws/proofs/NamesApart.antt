@@ -74,11 +74,11 @@ module _ {V : Type 0} (s : Setup) (vs : Versions V) (keeps : CompletionKeeps vs)
         sees = λ names session n there. h;
         locks = λ names session n there free. h;
         completes = λ session v l n locked found.
-      let w : V = vs.completed v now in
-      let p : Node → Bool = is_node_at (vs.file w) (vs.number w - 1) in
-      let there : find p t.nodes ≡ Some n = rw (keeps.file v now, keeps.number v now) found in
-      pairs-append PlacesApart (without_first p t.nodes) (with_version vs n w) (pairs-without PlacesApart p t.nodes h)
-      (pairs-found PlacesApart places_turned p t.nodes n h there);
+            let w : V = vs.completed v now in
+            let p : Node → Bool = is_node_at (vs.file w) (vs.number w - 1) in
+            let there : find p t.nodes ≡ Some n = rw (keeps.file v now, keeps.number v now) found in
+            pairs-append PlacesApart (without_first p t.nodes) (with_version vs n w) (pairs-without PlacesApart p t.nodes h)
+            (pairs-found PlacesApart places_turned p t.nodes n h there);
       })
       x
 

@@ -73,6 +73,18 @@ module _ {X : Type 0} (P : X → Type 0) where
   each-filter p [] h = tt
   each-filter p (x ∷ xs) h = chosen (Each P) (p x) (x ∷ filter p xs) (filter p xs) (h.0, each-filter p xs h.1) (each-filter p xs h.1)
 
+  fewer_by : (b c : Bool) (x : X) (xs ys : List X) → (c ≡ true → b ≡ true) → (Each P xs → Each P ys) → Each P (cond b (x ∷ xs) xs)
+      → Each P (cond c (x ∷ ys) ys)
+  fewer_by true true x xs ys more rest h = (h.0, rest h.1)
+  fewer_by true false x xs ys more rest h = rest h.1
+  fewer_by false false x xs ys more rest h = rest h
+  fewer_by false true x xs ys more rest h = cc (more refl)
+
+  -- of fewer items
+  pub each-fewer : (p q : X → Bool) → ((x : X) → q x ≡ true → p x ≡ true) → (xs : List X) → Each P (filter p xs) → Each P (filter q xs)
+  each-fewer p q more [] h = tt
+  each-fewer p q more (x ∷ xs) h = fewer_by (p x) (q x) x (filter p xs) (filter q xs) (more x) (each-fewer p q more xs) h
+
   -- what holds of each item holds of the found one
   pub found_by : (b : Bool) (y x : X) (rest : Option X) → P y → (rest ≡ Some x → P x) → cond b (Some y) rest ≡ Some x → P x
   found_by true y x rest h later found = subst P (some_same y x found) h

@@ -1,4 +1,4 @@
-use Rattle.std.specs.Prelude.{◌≡◌, ◌⊎◌, ℕ, List, [], ◌∷◌, filter, Some, IsTrue, Contains, slice_get}
+use Rattle.std.specs.Prelude.{◌≡◌, ◌⊎◌, ℕ, ◌-◌, List, [], ◌∷◌, filter, Some, IsTrue, Contains, slice_get}
 use Rattle.scfs_base.specs.declared.naming.FileId.{FileId}
 use Rattle.scfs_base.specs.declared.naming.RequestNo.{RequestNo}
 use Rattle.scfs_schedule.specs.declared.types.Event.TheVariants as events
@@ -7,7 +7,7 @@ use Rattle.scfs_model.specs.Names.{same_file}
 use Rattle.scfs_model.specs.Format.{Setup}
 use Rattle.scfs_model.specs.History.{Entry, History}
 use Rattle.scfs_model.specs.Versions.{Versions}
-use Rattle.scfs_model.specs.Tree.{Lock, live, is_lock_by}
+use Rattle.scfs_model.specs.Tree.{Node, Lock, live, node_at, is_lock_by}
 use Rattle.scfs_model.specs.SessionSteps.{Session_step, Open_write, Commit}
 use Rattle.scfs_model.specs.Steps.{On_sessions}
 use Rattle.scfs_model.specs.Agents.{Request}
@@ -44,11 +44,13 @@ module _ {V : Type 0} (s : Setup) (vs : Versions V) where
   HasSince (e ∷ past) request file session =
       HasAlone (live_locks (e ∷ past)) request file session × (IsLocked past e request file session ⊎ HasSince past request file session)
 
-  -- each committed line of an entry after a history is of the close of a session that had its lock since, up to this event
+  -- each committed line of an entry after a history is of the close of a session that had its lock since, up to this event, and found the
+  -- file at the version before
   abbrev pub IsFenced : History → Entry → Type 0
   IsFenced past e =
       (request : RequestNo) (file : FileId) (number : ℕ) → Contains e.lines (lines.Committed request file number)
-      → (session : ℕ) × (v : V) × Serves (state_after s vs past) e request (Commit session v) × HasSince past request file session
+      → (session : ℕ) × (v : V) × (n : Node) × Serves (state_after s vs past) e request (Commit session v) × HasSince past request file session
+      × (node_at (state_after s vs past).tree.nodes file (number - 1) ≡ Some n)
 
   -- each committed line of a history
   abbrev pub CommitsAreFenced : History → Type 0
