@@ -72,8 +72,8 @@ module _ (s : Setup) (a : ℕ) where
         puts = λ g x u clouds k below up. (up, refl, tt);
         commits = λ g x u enough up. (up, refl, (refl, tt));
         drops = λ g x up. (up, refl, tt);
-        downs = λ g k. absurd k;
-        ups = λ g k. absurd k;
+        downs = λ g up k. absurd k;
+        ups = λ g up k. absurd k;
       }
 
   reply : (request : RequestNo) (o : Outcome Row) → IsReply usual request o

@@ -40,6 +40,8 @@ pub mod HeldReads
 mod HeldPlayed
 pub mod Moves
 pub mod Ways
+pub mod Seats
+pub mod AckedMoves
 mod NewestLists
 mod NewestDraws
 mod NewestKept

@@ -169,8 +169,8 @@ module _ {V : Type 0} (s : Setup) (vs : Versions V) (a : ℕ) (known : Known V) 
         → P (goes_on g x u) (asks_step a (goes_on g x u) (On_sessions (Commit x.number u.version)))
     pub drops : (g : Agent V) (x : Closed V) → P (closing g x) (silent g)
     -- lives
-    pub downs : (g : Agent V) → known.crash → P g (crashes s vs a g)
-    pub ups : (g : Agent V) → known.start → P g (saying (next_life g) (says.Started (g.incarnation + 1)))
+    pub downs : (g : Agent V) → is_up g.life ≡ true → known.crash → P g (crashes s vs a g)
+    pub ups : (g : Agent V) → is_up g.life ≡ false → known.start → P g (saying (next_life g) (says.Started (g.incarnation + 1)))
 
 chosen : {A : Type 0} (Q : A → Type 0) (b : Bool) (x y : A) → (b ≡ true → Q x) → (b ≡ false → Q y) → Q (cond b x y)
 chosen Q true x y h k = h refl
@@ -183,6 +183,22 @@ each-range from (suc n) = (omega arith, each-map (λ c. c < from + 1 + n) _ (λ 
 
 pub each-below : (n : ℕ) → Each (λ c. c < n) (below n)
 each-below n = each-map (λ c. c < 0 + n) (λ c. c < n) (λ c h. omega (arith, h)) (below n) (each-range 0 n)
+
+-- the upload that begins where none is in progress
+module _ {V : Type 0} (s : Setup) (vs : Versions V) (a : ℕ) (P : Agent V → Reaction V → Type 0) (still : (g : Agent V) → P g (silent g))
+    (begins_by : (g : Agent V) (x : Closed V) → P (closing g (record x { upload = None })) (begins s vs a g x)) where
+  begun_by : (g : Agent V) (rest : List (Closed V)) (x : Closed V) (u : Option (Upload V)) →
+      let y : Closed V = record x { upload = u } in
+      let h : Agent V = record g { closed = y ∷ rest } in P h (begun s vs a h rest y u)
+  begun_by g rest x None = begins_by (record g { closed = rest }) (record x { upload = None })
+  begun_by g rest x (Some u) = still _
+
+  next_by : (g : Agent V) (xs : List (Closed V)) → P (record g { closed = xs }) (next_begun s vs a (record g { closed = xs }) xs)
+  next_by g [] = still _
+  next_by g (x ∷ rest) = begun_by g rest x x.upload
+
+  pub next_begins : (g : Agent V) → P g (next_begun s vs a g g.closed)
+  next_begins g = next_by g g.closed
 
 module _ {V : Type 0} (s : Setup) (vs : Versions V) (a : ℕ) (known : Known V) (given : Given) (P : Agent V → Reaction V → Type 0)
     (m : Moves s vs a known given P) where
@@ -430,24 +446,14 @@ module _ {V : Type 0} (s : Setup) (vs : Versions V) (a : ℕ) (known : Known V) 
       let first : Reaction V = renews_due vs a g given.now s.header.lease in
       m.follow g first _ (renews_by g (filter (λ (l : Lease). is_due given.now s.header.lease l && not l.asked) g.leases))
       (work_by (open_turns s vs a) (upload_turns s a) open_turns_by (λ g x u. upload_turns_by g x u k) first.agent)
-  responds g Crashes up k = m.downs g k
+  responds g Crashes up k = m.downs g up k
   responds g Starts up k =
       let h : Agent V = next_life g in
-      m.follow g (saying h (says.Started h.incarnation)) _ (m.ups g k) (m.asks h (On_locks Unlock_all) tt)
+      m.follow g (saying h (says.Started h.incarnation)) _ (m.ups g up k) (m.asks h (On_locks Unlock_all) tt)
 
   -- with the upload that begins then
-  module _ (begins_by : (g : Agent V) (x : Closed V) → P (closing g (record x { upload = None })) (begins s vs a g x)) where
-    begun_by : (g : Agent V) (rest : List (Closed V)) (x : Closed V) (u : Option (Upload V)) →
-        let y : Closed V = record x { upload = u } in
-        let h : Agent V = record g { closed = y ∷ rest } in P h (begun s vs a h rest y u)
-    begun_by g rest x None = begins_by (record g { closed = rest }) (record x { upload = None })
-    begun_by g rest x (Some u) = m.still _
-
-    next_by : (g : Agent V) (xs : List (Closed V)) → P (record g { closed = xs }) (next_begun s vs a (record g { closed = xs }) xs)
-    next_by g [] = m.still _
-    next_by g (x ∷ rest) = begun_by g rest x x.upload
-
-    pub reacts : (g : Agent V) (input : Input V) → is_up g.life ≡ has_up input → IsInput known input → P g (reacted s vs a g given input)
-    reacts g input up k =
-        let first : Reaction V = responded s vs a g given input in
-        m.follow g first _ (responds g input up k) (next_by first.agent first.agent.closed)
+  pub reacts : ((g : Agent V) (x : Closed V) → P (closing g (record x { upload = None })) (begins s vs a g x))
+      → (g : Agent V) (input : Input V) → is_up g.life ≡ has_up input → IsInput known input → P g (reacted s vs a g given input)
+  reacts begins_by g input up k =
+      let first : Reaction V = responded s vs a g given input in
+      m.follow g first _ (responds g input up k) (next_begins s vs a P m.still begins_by first.agent)

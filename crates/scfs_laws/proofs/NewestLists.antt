@@ -34,6 +34,13 @@ pub each-map : {X : Type 0} (P Q : X → Type 0) → ((x : X) → P x → Q x) �
 each-map P Q f [] h = tt
 each-map P Q f (x ∷ xs) h = (f x h.0, each-map P Q f xs h.1)
 
+pub each-inside : {X : Type 0} (P Q : X → Type 0) (xs : List X) → ((x : X) → Contains xs x → P x → Q x) → Each P xs → Each Q xs
+each-inside P Q [] f h = tt
+each-inside P Q (x ∷ xs) f h = (
+  f x (0, omega arith, refl) h.0,
+  each-inside P Q xs (λ y inside. f y (suc inside.0, omega (arith, inside.1), inside.2)) h.1,
+)
+
 pub each-two : {X : Type 0} (P Q R : X → Type 0) → ((x : X) → P x → Q x → R x) → (xs : List X) → Each P xs → Each Q xs → Each R xs
 each-two P Q R f [] h k = tt
 each-two P Q R f (x ∷ xs) h k = (f x h.0 k.0, each-two P Q R f xs h.1 k.1)
