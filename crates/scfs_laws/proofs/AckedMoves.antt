@@ -1,6 +1,5 @@
 -- What is known of an agent's uploads, by what was sent and acknowledged, it keeps in all that it does, and it asks a commit only of enough.
-use Rattle.std.proofs.Common.{◌≡◌, ◌≢◌, ℕ, zero, suc, ◌+◌, ◌<◌, ◌≤◌, List, [], ◌∷◌, ◌++◌, length, map, nat_lt, Bool, true, false, cond, ◌&&◌, ◌||◌, not, refl, sym, ap, ap₂, ◌∙◌, subst, arith, Option, Some, None, leb-true, eq-eqb, true≢false, nat_le, Contains}
-use Rattle.std.specs.List.{list_any}
+use Rattle.std.proofs.Common.{◌≡◌, ◌≢◌, ℕ, ◌+◌, ◌<◌, ◌≤◌, List, [], ◌∷◌, ◌++◌, length, map, nat_lt, Bool, true, false, cond, ◌&&◌, ◌||◌, not, refl, sym, ap, ap₂, ◌∙◌, subst, Option, Some, None, leb-true, eq-eqb, true≢false, nat_le, Contains}
 use Rattle.std.specs.Prelude.{◌==◌}
 use Rattle.std.proofs.lemmas.Bool.{and_parts, eqb-true}
 use Rattle.scfs_base.specs.declared.naming.RequestNo.{RequestNo}
@@ -17,17 +16,16 @@ use Rattle.scfs_model.specs.Format.{Setup, clouds_of, enough, sealed, object_at}
 use Rattle.scfs_model.specs.Given.{Given}
 use Rattle.scfs_model.specs.Lives.{is_up}
 use Rattle.scfs_model.specs.Asked.{Asked, asked_of, is_answer_to}
-use Rattle.scfs_model.specs.SessionSteps.{Session_step, Open_read, Open_write, Commit}
+use Rattle.scfs_model.specs.SessionSteps.{Open_read, Open_write, Commit}
 use Rattle.scfs_model.specs.Steps.{Step, On_names, On_locks, On_sessions}
-use Rattle.scfs_model.specs.NameSteps.{Make, Look}
 use Rattle.scfs_model.specs.Storing.{is_ack, is_new_ack, with_ack}
 use Rattle.scfs_model.specs.Agents.{Upload, Closed, Request, Agent, Sent, Reaction, next_asked}
-use Rattle.scfs_model.specs.Closes.{with_storing, asks_puts, begins}
+use Rattle.scfs_model.specs.Closes.{with_storing, asks_puts}
 use Rattle.scfs_model.specs.Reactions.{next_begun}
 use Rattle.scfs_model.specs.Layers.{Row, Version, rows, row_of}
 use Rattle.scfs_laws.specs.Acknowledged.{put_of}
 use Rattle.scfs_laws.proofs.NewestLists.{Each, Pairs, each-map, each-append, each-front, each-back, each-inside}
-use Rattle.scfs_laws.proofs.Moves.{Known, IsOther, Moves, each-below, closing, next_begins}
+use Rattle.scfs_laws.proofs.Moves.{Known, IsOther, Moves, each-below, next_begins}
 
 abbrev pub Differ : List ℕ → Type 0
 Differ ns = Pairs (λ m n. m ≢ n) ns
@@ -275,12 +273,16 @@ module _ (s : Setup) (a : ℕ) (Sends : Sent → Type 0) (Acked : (incarnation :
           ups = λ g up none. absurd none;
         }
 
-  -- an upload begins, where it is had
-  pub begins_keeps : ((u : UploadNo) (contents : List ℕ) → Had u contents) → (g : Agent Row) → Keeps Sends g (next_begun s rows a g g.closed)
+  -- an upload that begins is another one, where it is had
+  abbrev pub Begins : Agent Row → Reaction Row → Type 0
+  Begins g r =
+      is_up g.life ≡ true → AreClosed g.incarnation g.closed → Each Sends r.sent
+      → (is_up r.agent.life ≡ true) × AreClosed r.agent.incarnation r.agent.closed × (r.steps ≡ [])
+
+  pub begins_keeps : ((u : UploadNo) (contents : List ℕ) → Had u contents) → (g : Agent Row) → Begins g (next_begun s rows a g g.closed)
   begins_keeps had =
-      next_begins s rows a (Keeps Sends) (λ g up k sent. (up, k, tt)) (λ g x up k sent.
-      let u : UploadNo = upload_no a g.incarnation (g.uploads + 1) in
-      (
+      next_begins s rows a Begins (λ g up k sent. (up, k, refl)) (λ g x up k sent.
+      let u : UploadNo = upload_no a g.incarnation (g.uploads + 1) in (
         up,
         (
           record {
@@ -294,7 +296,7 @@ module _ (s : Setup) (a : ℕ) (Sends : Sent → Type 0) (Acked : (incarnation :
           },
           k.1,
         ),
-        tt,
+        refl,
       ))
 
 -- where more is known

@@ -1,16 +1,13 @@
 -- Whatever comes to an agent that is up but a crash, it stays up, in its incarnation, and its steps are of that incarnation.
-use Rattle.std.proofs.Common.{◌≡◌, ℕ, true, refl, ◌∙◌, Ok, Err}
-use Rattle.scfs_base.specs.declared.naming.RequestNo.{RequestNo}
+use Rattle.std.proofs.Common.{◌≡◌, ℕ, true, refl, sym, ◌∙◌}
 use Rattle.scfs_model.specs.Format.{Setup}
 use Rattle.scfs_model.specs.Given.{Given}
 use Rattle.scfs_model.specs.Lives.{is_up}
-use Rattle.scfs_model.specs.SessionSteps.{Sees, Locks, Completes}
-use Rattle.scfs_model.specs.Steps.{Outcome, Of_names, Of_locks, Of_sessions}
 use Rattle.scfs_model.specs.Agents.{Request, Agent, Input, Calls, Tells, Hears, Turns, Crashes, Starts, Reaction}
 use Rattle.scfs_model.specs.Reactions.{reacted}
 use Rattle.scfs_model.specs.Layers.{Row, rows}
 use Rattle.scfs_laws.proofs.NewestLists.{Each, each-map, each-append}
-use Rattle.scfs_laws.proofs.Moves.{Known, IsReply, Moves, reacts}
+use Rattle.scfs_laws.proofs.Moves.{Known, IsInput, any_reply, has_up, Moves, reacts}
 
 module _ (s : Setup) (a : ℕ) where
   -- a request of this incarnation
@@ -76,21 +73,15 @@ module _ (s : Setup) (a : ℕ) where
         ups = λ g up k. absurd k;
       }
 
-  reply : (request : RequestNo) (o : Outcome Row) → IsReply usual request o
-  reply request (Of_names x r) = tt
-  reply request (Of_locks x r) = tt
-  reply request (Of_sessions x (Ok (Sees sight))) = tt
-  reply request (Of_sessions x (Ok (Locks sight l))) = tt
-  reply request (Of_sessions x (Ok (Completes h v n))) = tt
-  reply request (Of_sessions x (Err why)) = tt
+  -- whatever this comes to
+  module _ (g : Agent Row) (up : is_up g.life ≡ true) (given : Given) where
+    whole : (input : Input Row) → has_up input ≡ true → IsInput usual input → Stays g (reacted s rows a g given input)
+    whole input ups k = reacts s rows a usual given StaysUp (moves given) (λ g x up. (up, refl, tt)) g input (up ∙ sym ups) k up
 
-  pub reacted_stays : (g : Agent Row) → is_up g.life ≡ true → (given : Given) (input : Input Row) → IsUsual input
-      → Stays g (reacted s rows a g given input)
-  reacted_stays g up given (Calls call) k = reacts s rows a usual given StaysUp (moves given) (λ g x up. (up, refl, tt)) g (Calls call) up tt up
-  reacted_stays g up given (Tells request o) k =
-      reacts s rows a usual given StaysUp (moves given) (λ g x up. (up, refl, tt)) g (Tells request o) up (reply request o) up
-  reacted_stays g up given (Hears c request answer) k =
-      reacts s rows a usual given StaysUp (moves given) (λ g x up. (up, refl, tt)) g (Hears c request answer) up tt up
-  reacted_stays g up given Turns k = reacts s rows a usual given StaysUp (moves given) (λ g x up. (up, refl, tt)) g Turns up tt up
-  reacted_stays g up given Crashes k = absurd k
-  reacted_stays g up given Starts k = absurd k
+    pub reacted_stays : (input : Input Row) → IsUsual input → Stays g (reacted s rows a g given input)
+    reacted_stays (Calls call) k = whole (Calls call) refl tt
+    reacted_stays (Tells request o) k = whole (Tells request o) refl (any_reply usual (λ request sight. tt) request o)
+    reacted_stays (Hears c request answer) k = whole (Hears c request answer) refl tt
+    reacted_stays Turns k = whole Turns refl tt
+    reacted_stays Crashes k = absurd k
+    reacted_stays Starts k = absurd k

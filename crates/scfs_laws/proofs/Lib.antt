@@ -42,6 +42,7 @@ pub mod Moves
 pub mod Ways
 pub mod Seats
 pub mod AckedMoves
+pub mod AckedLaw
 mod NewestLists
 mod NewestDraws
 mod NewestKept

@@ -64,6 +64,15 @@ module _ {V : Type 0} (known : Known V) where
   IsReply request (Of_locks x r) = Unit {0}
   IsReply request (Of_sessions x r) = IsResult request r
 
+  -- where each sight is so
+  pub any_reply : ((request : RequestNo) (sight : Sight V) → known.sight request sight) → (request : RequestNo) (o : Outcome V) → IsReply request o
+  any_reply each request (Of_names x r) = tt
+  any_reply each request (Of_locks x r) = tt
+  any_reply each request (Of_sessions x (Ok (Sees sight))) = each request sight
+  any_reply each request (Of_sessions x (Ok (Locks sight l))) = each request sight
+  any_reply each request (Of_sessions x (Ok (Completes h v n))) = tt
+  any_reply each request (Of_sessions x (Err why)) = tt
+
   abbrev pub IsInput : Input V → Type 0
   IsInput (Calls call) = known.call call
   IsInput (Tells request o) = IsReply request o

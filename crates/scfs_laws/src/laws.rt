@@ -10,6 +10,7 @@ ghost use Rattle.scfs_laws.specs.Newest.{OpensNewest};
 ghost use Rattle.scfs_model.specs.Runs.{actual, mapped, Happens, Run};
 ghost use Rattle.scfs_laws.specs.Sound.{IsSound};
 ghost use Rattle.scfs_model.specs.Tree.{live};
+ghost use Rattle.scfs_laws.specs.Acknowledged.{CommitsAreAcknowledged};
 ghost use Rattle.scfs_laws.specs.Fences.{CommitsAreFenced};
 ghost use Rattle.scfs_laws.specs.TreeLaws.{LocksAlone, NamesDiffer};
 
@@ -44,6 +45,12 @@ pub fn opens_are_newest()
 pub fn commits_are_fenced()
     ensures made { (s : Setup) (past : History) → Happens s past → CommitsAreFenced s rows past }
     ensures due { (s : Setup) (past : History) → Run s past → CommitsAreFenced s (closes s) past }
+{}
+
+/// Each close was completed on objects of which all clouds but f had acknowledged theirs, to the agent and incarnation that asked its
+/// commit, whatever else clouds answered.
+pub fn commits_are_acknowledged()
+    ensures { (s : Setup) (past : History) → Happens s past → CommitsAreAcknowledged s past }
 {}
 
 /// In the tree of every history no two nodes have one name below one parent, and no file has two live locks.
