@@ -38,6 +38,11 @@ pub mod HeldKeeping
 pub mod HeldPlaces
 pub mod HeldReads
 mod HeldPlayed
+pub mod Moves
+pub mod Ways
+pub mod Seats
+pub mod AckedMoves
+pub mod AckedLaw
 mod NewestLists
 mod NewestDraws
 mod NewestKept
@@ -49,7 +54,7 @@ mod NamesSteps
 mod NamesApart
 mod NamesLocks
 mod NewestLines
-mod NamesCommits
+mod Fenced
 mod NewestVersions
 mod NewestTree
 mod NewestServes

@@ -21,7 +21,7 @@ use Rattle.scfs_laws.proofs.NewestTree.{MakesNew, IsNot}
 use Rattle.scfs_laws.proofs.NewestLines.{IsOfAgent, IsNoSawBy, idle_of_agent, said_of_agent, request_of_agent, each-did, no_services, no_saws}
 use Rattle.scfs_laws.proofs.NewestSeats.{Drawn, WasDrawn, drawn_on, drawn_by, files_by, NotAhead, IsServed, KnownBy, IsAsked, known_on, SeatOk}
 use Rattle.scfs_laws.proofs.NewestSaid.{LineOk, idle_ok, idle_unseen, request_ok, request_unseen, fold-append, saw_said, said_unseen, said_ok}
-use Rattle.scfs_laws.proofs.NamesEvents.{IsIdle}
+use Rattle.scfs_laws.proofs.Ways.{IsIdle}
 
 module _ {V : Type 0} where
   -- a file that is drawn next is none of the nodes

@@ -17,7 +17,7 @@ use Rattle.scfs_laws.proofs.NewestLists.{Each}
 use Rattle.scfs_laws.proofs.NewestKept.{Known, SayOk, after_says}
 use Rattle.scfs_laws.proofs.NewestLines.{IsNoSawBy}
 use Rattle.scfs_laws.proofs.NewestSeats.{Drawn, KnownBy}
-use Rattle.scfs_laws.proofs.NamesEvents.{IsIdle}
+use Rattle.scfs_laws.proofs.Ways.{IsIdle}
 
 pub fold-append : {X Y : Type 0} (f : Y → X → Y) (y : Y) (xs zs : List X) → fold f y (xs ++ zs) ≡ fold f (fold f y xs) zs
 fold-append f y [] zs = refl

@@ -15,7 +15,7 @@ use Rattle.scfs_model.specs.SessionSteps.{Sight, Session_step, Session_outcome, 
 use Rattle.scfs_model.specs.Steps.{Step, On_names, On_locks, On_sessions, after_ok, line_of, served, served_line}
 use Rattle.scfs_laws.specs.TreeLaws.{CompletionKeeps}
 use Rattle.scfs_laws.specs.Newest.{after_commit, is_service}
-use Rattle.scfs_laws.proofs.NewestLists.{Each, eqb-refl, each-always, each-append, each-without, each-found}
+use Rattle.scfs_laws.proofs.NewestLists.{Each, eqb-refl, each-append, each-without, each-found}
 use Rattle.scfs_laws.proofs.NewestKept.{VersionOk}
 use Rattle.scfs_laws.proofs.NewestLines.{IsNoCommit}
 use Rattle.scfs_laws.proofs.NewestTree.{MakesNew, NodeOk, TreeOk, tree_same, tree_made, tree_completed}
@@ -57,14 +57,16 @@ module _ {V : Type 0} (vs : Versions V) (keeps : CompletionKeeps vs) (tree : Tre
       look_cases tree.nodes (λ r. Each (λ n. P n.id.0) (after_ok tree.nodes (nodes_after tree.nodes) r)) (λ why. h) names (λ n. h)
   serve_ids P (On_locks x) h k = h
   serve_ids P (On_sessions x) h k =
-      session_cases vs tree now (now + lease) request (λ n. P n.id.0) h
-      (λ r. Each (λ n. P n.id.0) (after_ok tree (session_after vs tree request) r).nodes) (λ why. h)
-      (λ n q. h) (λ session n q free. h)
-      (λ session v l n locked found.
-      let w : V = vs.completed v now in
-      let p : Node → Bool = is_node_at (vs.file w) (vs.number w - 1) in
-      each-append _ (without_first p tree.nodes) (with_version vs n w ∷ []) (each-without _ p tree.nodes h)
-      (each-found (λ m. P m.id.0) p tree.nodes n h (there v n found), tt))
+      session_cases vs tree now (now + lease) request (λ y r. Each (λ n. P n.id.0) (after_ok tree (session_after vs tree request) r).nodes) (λ y why. h)
+      (record {
+        sees = λ names session n found. h;
+        locks = λ names session n found free. h;
+        completes = λ session v l n locked found.
+            let w : V = vs.completed v now in
+            let p : Node → Bool = is_node_at (vs.file w) (vs.number w - 1) in
+            each-append _ (without_first p tree.nodes) (with_version vs n w ∷ []) (each-without _ p tree.nodes h)
+            (each-found (λ m. P m.id.0) p tree.nodes n h (there v n found), tt);
+      })
       x
 
   line_names : (r : OrRefusal Name_outcome) → IsOfStep request (line_of request name_line r)
@@ -113,14 +115,16 @@ module _ {V : Type 0} (vs : Versions V) (keeps : CompletionKeeps vs) (tree : Tre
     serve_tree (On_locks x) new =
         tree_same vs committed tree.nodes tree.versions (line_at (On_locks x)) (no_commit (lock_outcome tree.locks (now + lease) request x)) h
     serve_tree (On_sessions x) new =
-        session_cases vs tree now (now + lease) request (λ n. Unit {0}) (each-always _ (λ n. tt) tree.nodes)
-        (λ r. TreeOk vs (λ id. after_commit id (committed id) (line_of request (session_line vs) r))
+        session_cases vs tree now (now + lease) request (λ y r. TreeOk vs (λ id. after_commit id (committed id) (line_of request (session_line vs) r))
         (after_ok tree (session_after vs tree request) r).nodes
         (after_ok tree (session_after vs tree request) r).versions)
-        (λ why. tree_same vs committed tree.nodes tree.versions (lines.Refused request why) tt h)
-        (λ n q. tree_same vs committed tree.nodes tree.versions (lines.Looked request) tt h)
-        (λ session n q free. tree_same vs committed tree.nodes tree.versions (lines.Locked request n.id (now + lease)) tt h)
-        (λ session v l n locked found. tree_completed vs committed tree.nodes tree.versions (vs.completed v now) request n (there v n found) h)
+        (λ y why. tree_same vs committed tree.nodes tree.versions (lines.Refused request why) tt h)
+        (record {
+          sees = λ names session n found. tree_same vs committed tree.nodes tree.versions (lines.Looked request) tt h;
+          locks = λ names session n found free. tree_same vs committed tree.nodes tree.versions (lines.Locked request n.id (now + lease)) tt h;
+          completes = λ session v l n locked found.
+              tree_completed vs committed tree.nodes tree.versions (vs.completed v now) request n (there v n found) h;
+        })
         x
 
     -- a sight has the version that was committed, and its line serves the request
@@ -133,9 +137,15 @@ module _ {V : Type 0} (vs : Versions V) (keeps : CompletionKeeps vs) (tree : Tre
     SeenBy l (Ok (Completes session v n)) = Unit {0}
     SeenBy l (Err why) = Unit {0}
 
+    node_ok : (n : Node) → (test : Node → Bool) × (find test tree.nodes ≡ Some n) → NodeOk vs committed tree.versions n
+    node_ok n found = each-found (NodeOk vs committed tree.versions) found.0 tree.nodes n h.newest found.1
+
     pub serve_seen : (x : Session_step V) → SeenBy (line_at (On_sessions x)) (session_outcome vs tree now (now + lease) request x)
     serve_seen x =
-        session_cases vs tree now (now + lease) request (NodeOk vs committed tree.versions) h.newest
-        (λ r. SeenBy (line_of request (session_line vs) r) r) (λ why. tt)
-        (λ n q. (q.0, q.1, same_itself request)) (λ session n q free. (q.0, q.1, same_itself request)) (λ session v l n locked found. tt)
+        session_cases vs tree now (now + lease) request (λ y r. SeenBy (line_of request (session_line vs) r) r) (λ y why. tt)
+        (record {
+          sees = λ names session n found. let q = node_ok n found in (q.0, q.1, same_itself request);
+          locks = λ names session n found free. let q = node_ok n found in (q.0, q.1, same_itself request);
+          completes = λ session v l n locked found. tt;
+        })
         x

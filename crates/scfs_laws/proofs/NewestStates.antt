@@ -26,7 +26,8 @@ use Rattle.scfs_laws.proofs.NewestLines.{IsOfAgent, IsNoCommit, IsNoSawBy, idle_
 use Rattle.scfs_laws.proofs.NewestSeats.{Drawn, drawn_by, KnownBy, known_on, SeatOk, seat_stays}
 use Rattle.scfs_laws.proofs.NewestSaid.{LineOk, idle_ok, idle_unseen}
 use Rattle.scfs_laws.proofs.NewestComes.{come_of_agent, come_unseen, come_lines, come_seat, seat_started}
-use Rattle.scfs_laws.proofs.NamesEvents.{IsIdle, IsNoReply}
+use Rattle.scfs_laws.proofs.Ways.{IsIdle}
+use Rattle.scfs_laws.proofs.NamesEvents.{IsNoReply}
 
 module _ {V : Type 0} (vs : Versions V) where
   -- nodes are at what was committed, and of each seat all is known
