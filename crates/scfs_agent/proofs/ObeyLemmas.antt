@@ -17,7 +17,7 @@ use Rattle.scfs_agent.specs.Telling.{IsTold, pending_step, reads_version}
 use Rattle.scfs_agent.specs.Reacting.{DoesRanked, Reacts, reaction_by}
 use Rattle.scfs_agent.specs.declared.types.Input.TheVariants as inputs
 use Rattle.scfs_agent.specs.declared.types.Output.{Output}
-use Rattle.scfs_agent.proofs.FitAskedLemmas.{all_asked_fit}
+use Rattle.scfs_agent.proofs.FitAskedLemmas.{Quiet, none_ranked, all_asked_fit}
 use Rattle.scfs_agent.proofs.SettledLemmas.{settled_same}
 use Rattle.scfs_agent.proofs.ReactedLemmas.{tells_begun}
 use Rattle.scfs_agent.proofs.RankLemmas.{tells_asks}
@@ -38,22 +38,24 @@ module _ (allows : RankFacts → ℕ → Type 0) (now : ℕ) (old new : AgentSta
     record {
       gives = gives ∙ ap (outputs_of old) (sym is);
       after = ap (λ (a : AgentState). a.agent) after ∙ ap (λ (q : Reaction Row). q.agent) (sym is);
-      asks = all_asked_fit old.header old.no old.agent (given_now now ranks) input may;
+      asks = all_asked_fit old.header old.no old.agent (given_now now ranks) may input;
     },
   )
 
-  -- where the rank rule is asked nothing
-  pub does_settled : {E : Type 0} (input : machine.Input Row) (r : Reaction Row) (given : Result (List Output) E) → reaction [] input ≡ r → r.ranked ≡ []
-      → IfOk given (λ xs. xs ≡ outputs_of old r) → OnOk given (new ≡ record old { agent = r.agent }) → IfOk given (λ xs. Does input xs)
-  does_settled input r (Ok xs) is unranked gives after =
-      does_by input [] xs r is (subst (λ (facts : List RankFacts). Answers allows facts []) (sym unranked) tt) gives after
-  does_settled input r (Err e) is unranked gives after = tt
+  -- where the input is no reply
+  pub does_settled : {E : Type 0} (input : machine.Input Row) (r : Reaction Row) (given : Result (List Output) E) → Quiet (setup old) old.no may.number input
+      → reaction [] input ≡ r → IfOk given (λ xs. xs ≡ outputs_of old r) → OnOk given (new ≡ record old { agent = r.agent }) → IfOk given (λ xs. Does input xs)
+  does_settled input r (Ok xs) quiet is gives after =
+      let none : r.ranked ≡ [] =
+      ap (λ (q : Reaction Row). q.ranked) (sym is) ∙ none_ranked old.header old.no old.agent (given_now now []) may input quiet in
+      does_by input [] xs r is (subst (λ (facts : List RankFacts). Answers allows facts []) (sym none) tt) gives after
+  does_settled input r (Err e) quiet is gives after = tt
 
   -- where no upload begins behind it either
-  pub does_alone : {E : Type 0} (input : machine.Input Row) (r : Reaction Row) (given : Result (List Output) E) → reaction [] input ≡ settled (setup old) old.no r
-      → HasBegun r.agent.closed → r.ranked ≡ [] → IfOk given (λ xs. xs ≡ outputs_of old r) → OnOk given (new ≡ record old { agent = r.agent })
-      → IfOk given (λ xs. Does input xs)
-  does_alone input r given is begun = does_settled input r given (is ∙ settled_same (setup old) old.no r begun)
+  pub does_alone : {E : Type 0} (input : machine.Input Row) (r : Reaction Row) (given : Result (List Output) E) → Quiet (setup old) old.no may.number input
+      → reaction [] input ≡ settled (setup old) old.no r → HasBegun r.agent.closed → IfOk given (λ xs. xs ≡ outputs_of old r)
+      → OnOk given (new ≡ record old { agent = r.agent }) → IfOk given (λ xs. Does input xs)
+  does_alone input r given quiet is begun = does_settled input r given quiet (is ∙ settled_same (setup old) old.no r begun)
 
   abbrev telling : (ranks : List ℕ) → RequestNo → Outcome Row → Reaction Row
   telling ranks request o = tells (setup old) rows old.no old.agent (given_now now ranks) request o

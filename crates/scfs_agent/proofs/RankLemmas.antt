@@ -104,14 +104,3 @@ tells_asks s a lease agent given request o reply is its =
       by (Some x) e =
           told_asks s a given (untold agent request) lease request o reply is
           ∙ ap (λ (step : Step Row). cond (is_open step && shows_version reply.result) agent.tallies []) (sym e)
-
--- a reply to a request that was not made, and to what stands at its place
-pub reads_none : (pending : List (Request Row)) (request : RequestNo) (result : StepResult) → first_place (is_numbered request) pending ≡ length pending
-    → false ≡ reads_version (pending_step pending request) result
-reads_none pending request result place = ap (λ (p : Option (Request Row)). reads_version p result) (sym (none_pending request pending place))
-
-pub reads_some : (pending : List Pending) (request : RequestNo) (result : StepResult) (at : ℕ) (x : Pending) → at ≡ first_place (is_numbered request) (map request_of pending)
-    → slice_get pending at ≡ Some x
-    → (is_open (views.step_of x.asking) && shows_version result) ≡ reads_version (pending_step (map request_of pending) request) result
-reads_some pending request result at x place is =
-    ap (λ (p : Option (Request Row)). reads_version p result) (sym (taken_found request pending at x place is))
