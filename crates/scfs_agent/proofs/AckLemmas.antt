@@ -1,5 +1,5 @@
 -- The clouds that acknowledged an upload, as a list.
-use Rattle.std.proofs.Common.{◌≡◌, ◌≢◌, ℕ, ◌+◌, ◌-◌, ◌*◌, ◌<◌, ◌≤◌, zero, suc, List, [], ◌∷◌, length, Bool, true, false, cond, refl, sym, ap, ◌∙◌, subst, arith, ◌⊎◌, inl, inr}
+use Rattle.std.proofs.Common.{◌≡◌, ◌≢◌, ℕ, ◌+◌, ◌-◌, ◌*◌, ◌<◌, ◌≤◌, zero, suc, List, [], ◌∷◌, length, Bool, true, false, cond, refl, sym, ap, ◌∙◌, subst, arith}
 use Rattle.std.specs.Prelude.{◌==◌, ◌||◌, ◌&&◌, not, nat_lt, nat_le, filter, if◌then◌else◌}
 use Rattle.std.specs.FinSet as set
 use Rattle.std.specs.Cmp.{unsigned_tied}
@@ -16,14 +16,13 @@ use Rattle.scfs_quorum_write.specs.declared.progress.Progress.TheVariants as pro
 use Rattle.scfs_base.specs.declared.naming.RequestNo.{RequestNo}
 use Rattle.scfs_base.specs.declared.cloud.CloudAnswer.{CloudAnswer}
 use Rattle.scfs_model.specs.Lists.{is_in, below, put_by_number}
-use Rattle.scfs_model.specs.Format.{enough}
 use Rattle.scfs_model.specs.Asked.{is_answer_to}
 use Rattle.scfs_model.specs.Layers.{Row}
-use Rattle.scfs_model.specs.Next.{Next, Goes_on, Asks, Has, Gives_up}
+use Rattle.scfs_model.specs.Next.{Next, Goes_on, Has}
 use Rattle.scfs_model.specs.Storing.{is_ack, store_on}
 use Rattle.scfs_model.specs.Agents.{Agent, Reaction}
 use Rattle.scfs_model.specs.Agents as machine
-use Rattle.scfs_model.specs.Closes.{stores, upload_hears, upload_turns, with_storing}
+use Rattle.scfs_model.specs.Closes.{stores, upload_hears, with_storing}
 use Rattle.scfs_agent.specs.State.{AgentState, setup}
 use Rattle.scfs_agent.specs.Views.{acked_next, asked_of, acked_of, storing_of, upload_of, closed_of, row_of}
 use Rattle.scfs_agent.specs.Asking.{MayClose}

@@ -1,22 +1,15 @@
 -- The requests that an agent makes of clouds.
-use Rattle.std.proofs.Common.{◌≡◌, ℕ, ◌+◌, ◌*◌, ◌<◌, List, [], ◌∷◌, ◌++◌, length, suc, Some, refl, sym, ap, ◌∙◌}
+use Rattle.std.proofs.Common.{◌≡◌, ℕ, ◌+◌, ◌*◌, ◌<◌, List, [], ◌∷◌, ap, ◌∙◌}
 use Rattle.std.specs.List.{All}
-use Rattle.std.proofs.lemmas.List.{map-append, length-map}
 use Rattle.std.proofs.lemmas.List.Elements.{All-nil, All-cons, All-head, All-tail, All-same}
 use Rattle.scfs_base.specs.declared.cloud.CloudRequest.{CloudRequest}
 use Rattle.scfs_model.specs.Asked as machine
-use Rattle.scfs_model.specs.Layers.{Row, rows}
-use Rattle.scfs_model.specs.Agents.{Closed, For_clouds, For_close}
-use Rattle.scfs_model.specs.Opens.{asks_gets}
-use Rattle.scfs_model.specs.Closes.{asks_puts}
-use Rattle.scfs_agent.specs.State.{AgentState, setup}
-use Rattle.scfs_agent.specs.Views.{asked_of, opening_of, upload_of, closed_of}
-use Rattle.scfs_agent.specs.Outputs.{outputs_of, sent_outputs, sent_to, get_body, put_body}
+use Rattle.scfs_agent.specs.State.{AgentState}
+use Rattle.scfs_agent.specs.Views.{asked_of}
+use Rattle.scfs_agent.specs.Outputs.{sent_outputs, sent_to}
 use Rattle.scfs_agent.specs.Keeping.{FitsOutput}
 use Rattle.scfs_agent.specs.declared.types.Output.{Output}
 use Rattle.scfs_agent.specs.declared.work.Asked.{Asked}
-use Rattle.scfs_agent.specs.declared.work.Fetch.{Fetch}
-use Rattle.scfs_agent.specs.declared.work.Upload.{Upload}
 
 -- the clouds that are asked are those of the list
 pub asked_fit : (f : ℕ) (body : (c : ℕ) → CloudRequest) (a incarnation drawn : ℕ) (clouds : List ℕ) → All (λ c. c < 3 * f + 1) clouds

@@ -22,11 +22,11 @@ use Rattle.scfs_model.specs.Given.{Given}
 use Rattle.scfs_model.specs.Layers.{Row, rows}
 use Rattle.scfs_model.specs.Walks.{OrRefusal}
 use Rattle.scfs_model.specs.SessionSteps.{Session_step, Open_read, Open_write, Commit, Session_outcome, Sees, Locks, Completes, Sight}
-use Rattle.scfs_model.specs.Steps.{Step, On_sessions, Outcome, Of_names, Of_locks, Of_sessions}
+use Rattle.scfs_model.specs.Steps.{On_sessions, Outcome, Of_names, Of_locks, Of_sessions}
 use Rattle.scfs_model.specs.Next.{Next, Goes_on, Asks, Has, Gives_up}
 use Rattle.scfs_model.specs.Reading.{read_on, read_turn, with_piece, is_awaited, piece_in}
 use Rattle.scfs_model.specs.Storing.{is_new_ack, with_ack, store_on, store_turn}
-use Rattle.scfs_model.specs.Agents.{Opening, Waiting, For_step, For_clouds, For_close, Closed, Upload, Agent, Input, Calls, Tells, Hears, Turns, Crashes, Starts, Reaction, followed, asks_step}
+use Rattle.scfs_model.specs.Agents.{Opening, Waiting, For_step, For_clouds, For_close, Closed, Upload, Agent, Input, Calls, Tells, Hears, Turns, Crashes, Starts, Reaction, followed}
 use Rattle.scfs_model.specs.Lives.{is_ready}
 use Rattle.scfs_model.specs.Leases.{leased, renews_all}
 use Rattle.scfs_model.specs.Calls.{any_names, path_names, some_names, unless_refused, close, makes, looks, opens, called, call_of}

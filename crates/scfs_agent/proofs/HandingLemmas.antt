@@ -1,5 +1,5 @@
 -- What a call gave, said of the agent before it.
-use Rattle.std.proofs.Common.{◌≡◌, ℕ, ◌+◌, ◌*◌, List, [], Bool, true, false, Some, None, Result, IfOk, OnOk, sym, ap, ◌∙◌, subst}
+use Rattle.std.proofs.Common.{◌≡◌, ℕ, ◌+◌, ◌*◌, List, [], Bool, true, false, Some, None, Result, IfOk, OnOk, sym, ap, ◌∙◌}
 use Rattle.std.specs.Prelude.{◌&&◌, not, if◌then◌else◌}
 use Rattle.std.proofs.lemmas.Result.{IfOk-weaker, on_ok_weaker}
 use Rattle.scfs_base.specs.declared.naming.RequestNo.{RequestNo}
@@ -18,20 +18,12 @@ use Rattle.scfs_model.specs.Format.{sealed}
 use Rattle.scfs_model.specs.Asked as requests
 use Rattle.scfs_model.specs.Layers.{Row, rows}
 use Rattle.scfs_model.specs.Reading.{piece_in}
-use Rattle.scfs_model.specs.Agents.{For_close, Reaction, silent}
+use Rattle.scfs_model.specs.Agents.{For_close, Reaction}
 use Rattle.scfs_model.specs.Opens.{open_hears, reads, takes, tallied}
 use Rattle.scfs_model.specs.Closes.{asks_puts, begins}
-use Rattle.scfs_model.specs.Given.{Given}
-use Rattle.scfs_model.specs.NameSteps.{Name_step, Name_outcome}
-use Rattle.scfs_model.specs.LockSteps.{Lock_step, Lock_outcome}
-use Rattle.scfs_model.specs.SessionSteps.{Session_step, Session_outcome}
-use Rattle.scfs_model.specs.Steps.{Step, On_names, On_locks, On_sessions, Outcome, Of_names, Of_locks, Of_sessions}
-use Rattle.scfs_model.specs.Walks.{OrRefusal}
-use Rattle.scfs_model.specs.Told.{tells, told, untold, is_pending}
 use Rattle.scfs_model.specs.Next.{Goes_on}
 use Rattle.scfs_agent.specs.State.{AgentState, setup}
 use Rattle.scfs_agent.specs.Views.{asked_of, opening_of, reading_of, next_of, row_of, left_session, acked_of, upload_of, closed_of}
-use Rattle.scfs_agent.specs.Telling.{outcome_step}
 use Rattle.scfs_agent.specs.Outputs.{outputs_of}
 use Rattle.scfs_agent.specs.Keeping.{IsFetch}
 use Rattle.scfs_agent.specs.declared.types.Output.{Output}

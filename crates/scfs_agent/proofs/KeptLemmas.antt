@@ -1,6 +1,6 @@
 -- What holds of every agent goes on to hold.
 use Rattle.std.proofs.Common.{◌≡◌, ℕ, ◌+◌, ◌*◌, ◌<◌, ◌≤◌, List, [], ◌∷◌, ◌++◌, length, length-append, map, Bool, true, false, not, cond, Option, Some, None, refl, sym, ap, ◌∙◌, subst, inl, inr, arith}
-use Rattle.std.specs.Prelude.{◌==◌, nat_lt, filter, IfSome, if◌then◌else◌, is_some, remove}
+use Rattle.std.specs.Prelude.{◌==◌, nat_lt, filter, IfSome, if◌then◌else◌, remove}
 use Rattle.std.specs.List.{All}
 use Rattle.std.specs.Map.{set_value}
 use Rattle.std.specs.Ordering.{nat_cmp, match_ordering}
@@ -27,9 +27,8 @@ use Rattle.scfs_model.specs.Lists.{below}
 use Rattle.scfs_model.specs.UnitFormat.{under}
 use Rattle.scfs_model.specs.Agents.{Closed, no_tallies}
 use Rattle.scfs_agent.specs.Asking.{MayUpload}
-use Rattle.scfs_agent.specs.Settled.{OneBegun}
 use Rattle.scfs_agent.specs.Views.{step_of, request_of, waiting_of, closed_in}
-use Rattle.scfs_agent.specs.Keeping.{HaveBases, AreLeases, AreTallies, HaveRoom, MayTurn, IsKept, IsWork, FitsAsking, calls_in, calls_of, is_call}
+use Rattle.scfs_agent.specs.Keeping.{HaveBases, AreLeases, AreTallies, HaveRoom, IsKept, IsWork, FitsAsking, calls_in, calls_of, is_call}
 use Rattle.scfs_agent.specs.declared.work.Pending.{Pending}
 use Rattle.scfs_agent.specs.declared.work.Work.{Work}
 use Rattle.scfs_agent.specs.declared.work.Work.TheVariants as works

@@ -1,5 +1,5 @@
 -- What an agent does on an input, by what its calls gave.
-use Rattle.std.proofs.Common.{◌≡◌, ℕ, List, [], cond, Result, Ok, Err, IfOk, OnOk, refl, sym, ap, ◌∙◌, subst}
+use Rattle.std.proofs.Common.{◌≡◌, ℕ, List, [], cond, Result, Ok, Err, IfOk, OnOk, sym, ap, ◌∙◌, subst}
 use Rattle.scfs_base.specs.declared.naming.RequestNo.{RequestNo}
 use Rattle.scfs_policy.specs.declared.rank.RankFacts.{RankFacts}
 use Rattle.scfs_tuples.specs.declared.types.Reply.{Reply}

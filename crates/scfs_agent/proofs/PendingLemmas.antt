@@ -8,9 +8,9 @@ use Rattle.scfs_base.specs.declared.naming.RequestNo.{RequestNo}
 use Rattle.scfs_model.specs.Lists.{without_first}
 use Rattle.scfs_model.specs.Layers.{Row, rows}
 use Rattle.scfs_model.specs.Given.{Given}
-use Rattle.scfs_model.specs.Steps.{Step, Outcome}
+use Rattle.scfs_model.specs.Steps.{Outcome}
 use Rattle.scfs_model.specs.Agents.{Request, silent}
-use Rattle.scfs_model.specs.Told.{tells, told, untold, is_pending}
+use Rattle.scfs_model.specs.Told.{tells, told, untold}
 use Rattle.scfs_agent.specs.State.{AgentState, setup}
 use Rattle.scfs_agent.specs.Views.{request_of, step_of, waiting_of}
 use Rattle.scfs_agent.specs.Keeping.{is_call, calls_in, calls_of}
@@ -195,7 +195,7 @@ module _ (request : RequestNo) (pending slice : List Pending) (at : ℕ) (same :
 
       pub told_then : (given : Given) (reply : Reply) (P : List Output × AgentState → Type 0)
           → ((o : Outcome Row) → outcome_step o ≡ step_of x.asking → IsReplyTo view.header.lease request o reply → FitsOutcome o
-              → P (did view (told (setup view) rows view.no view.agent given request o)))
+          → P (did view (told (setup view) rows view.no view.agent given request o)))
           → (o : Outcome Row) → IsTold old.header.lease old.agent.pending request reply o → P (did old (tells (setup old) rows old.no old.agent given request o))
       told_then given reply P each o is =
           subst P (told_did given o)

@@ -1,5 +1,5 @@
 -- What the rank rule is asked and answers when an agent is told what its step came to.
-use Rattle.std.proofs.Common.{◌≡◌, ℕ, List, [], ◌∷◌, ◌++◌, Bool, true, false, cond, Option, Some, None, Ok, Err, refl, sym, ap, ◌∙◌, subst, length, map, slice_get}
+use Rattle.std.proofs.Common.{◌≡◌, ℕ, List, [], ◌∷◌, ◌++◌, Bool, true, false, cond, Option, Some, None, Ok, Err, refl, sym, ap, ◌∙◌, subst}
 use Rattle.std.specs.Prelude.{◌==◌, ◌&&◌, not, is_some, if◌then◌else◌, option_map}
 use Rattle.std.proofs.lemmas.List.{append-nil}
 use Rattle.scfs_base.specs.declared.naming.RequestNo.{RequestNo}
@@ -28,12 +28,9 @@ use Rattle.scfs_model.specs.Agents.{Agent, Closed, Request, silent}
 use Rattle.scfs_model.specs.Opens.{As_empty, found, found_version, saw, sighted}
 use Rattle.scfs_model.specs.Leases.{leased}
 use Rattle.scfs_model.specs.Told.{tells, told, told_commit, untold}
-use Rattle.scfs_agent.specs.Views.{request_of}
-use Rattle.scfs_agent.specs.Views as views
-use Rattle.scfs_agent.specs.Telling.{IsIts, outcome_step, pending_step, first_place, is_numbered, is_open, has_version, shows_version, reads_version}
-use Rattle.scfs_agent.specs.declared.work.Pending.{Pending}
+use Rattle.scfs_agent.specs.Telling.{IsIts, outcome_step, pending_step, is_open, has_version, shows_version, reads_version}
 use Rattle.scfs_agent.proofs.LeaseLemmas.{told_calm}
-use Rattle.scfs_agent.proofs.PendingLemmas.{any_found, none_pending, taken_found}
+use Rattle.scfs_agent.proofs.PendingLemmas.{any_found}
 use Rattle.scfs_agent.proofs.ToldLemmas.{sight_is}
 
 -- all answers

@@ -1,35 +1,23 @@
 -- What the rank rule is asked in a reaction, and that no upload begins behind most.
-use Rattle.std.proofs.Common.{◌≡◌, ℕ, ◌+◌, List, [], ◌∷◌, ◌++◌, length, Bool, true, false, Option, Some, None, Result, Ok, Err, refl, sym, ap, ◌∙◌, subst}
-use Rattle.std.specs.Prelude.{filter, ◌&&◌, not, is_some, if◌then◌else◌, nat_lt}
-use Rattle.std.proofs.lemmas.List.{append-nil}
+use Rattle.std.proofs.Common.{◌≡◌, ℕ, List, [], ◌∷◌, Bool, true, false, Option, Some, None, Ok, Err, refl, sym, ◌∙◌, subst}
+use Rattle.std.specs.Prelude.{filter, ◌&&◌, not, is_some, if◌then◌else◌}
 use Rattle.scfs_base.specs.declared.naming.RequestNo.{RequestNo}
 use Rattle.scfs_base.specs.declared.cloud.CloudAnswer.{CloudAnswer}
 use Rattle.scfs_lease.specs.declared.leases.Lease.{Lease}
 use Rattle.scfs_lease.specs.Leases.{is_due}
-use Rattle.scfs_policy.specs.declared.rank.RankFacts.{RankFacts}
-use Rattle.scfs_schedule.specs.declared.types.Call.{Call}
-use Rattle.scfs_schedule.specs.declared.types.Call.TheVariants as calls
-use Rattle.scfs_schedule.specs.declared.types.Refusal.{Refusal}
-use Rattle.scfs_session.specs.declared.sessions.Session.{Session}
-use Rattle.scfs_session.specs.Open.{session_of, read_answer, after_write, after_truncate}
 use Rattle.scfs_model.specs.Format.{Setup}
 use Rattle.scfs_model.specs.Layers.{Row, rows}
 use Rattle.scfs_model.specs.Given.{Given}
 use Rattle.scfs_model.specs.Walks.{OrRefusal}
-use Rattle.scfs_model.specs.Next.{Next, Goes_on, Asks, Has, Gives_up}
-use Rattle.scfs_model.specs.Reading.{piece_in, is_awaited, with_piece, read_on, read_turn}
-use Rattle.scfs_model.specs.Storing.{is_new_ack, with_ack, store_on, store_turn}
-use Rattle.scfs_model.specs.SessionSteps.{Session_step, Open_read, Open_write, Commit, Session_outcome, Sees, Locks, Completes, Sight}
+use Rattle.scfs_model.specs.SessionSteps.{Open_read, Open_write, Commit, Session_outcome, Sees, Locks, Completes, Sight}
 use Rattle.scfs_model.specs.Steps.{Outcome, Of_names, Of_locks, Of_sessions}
 use Rattle.scfs_model.specs.Agents.{Agent, Opening, Waiting, For_step, For_clouds, For_close, Closed, Upload, Reaction, silent}
-use Rattle.scfs_model.specs.Opens.{reads, open_hears, open_turns, gives_up, tallied, saw, found}
-use Rattle.scfs_model.specs.Closes.{stores, upload_hears, upload_turns, with_storing}
-use Rattle.scfs_model.specs.Lives.{is_ready}
+use Rattle.scfs_model.specs.Opens.{open_hears, open_turns, saw, found}
+use Rattle.scfs_model.specs.Closes.{upload_hears, upload_turns}
 use Rattle.scfs_model.specs.Leases.{leased, renews_due}
-use Rattle.scfs_model.specs.Calls.{call_of, called, unless_refused, close, path_names, any_names, makes, looks, opens}
 use Rattle.scfs_model.specs.Told.{tells, told, told_open, told_closed, told_commit, untold, is_pending}
-use Rattle.scfs_model.specs.Reactions.{idle, to_open, to_closed, to_upload, to_work, hears, turns, next_begun, begun}
-use Rattle.scfs_agent.specs.Settled.{settled, HasBegun, OneBegun}
+use Rattle.scfs_model.specs.Reactions.{idle, to_open, to_closed, to_upload, to_work, hears, turns, begun}
+use Rattle.scfs_agent.specs.Settled.{HasBegun, OneBegun}
 use Rattle.scfs_agent.proofs.LeaseLemmas.{renewed, told_calm}
 use Rattle.scfs_agent.proofs.SettledLemmas.{Leaves, hears_leaves, turns_leave, sighted_leaves, hears_begun, turns_begun}
 

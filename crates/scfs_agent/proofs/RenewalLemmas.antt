@@ -1,6 +1,6 @@
 -- Renewing the first lock that is due, and then those of higher sessions, renews all that are due.
-use Rattle.std.proofs.Common.{◌≡◌, ◌∙◌, ℕ, ◌+◌, ◌<◌, ◌≤◌, Bool, true, false, cond, not, ltb, List, [], ◌∷◌, ◌++◌, length, Option, Some, None, refl, sym, ap, subst, inl, inr, arith, append_assoc}
-use Rattle.std.specs.Prelude.{filter, find, option_map, nat_lt, ◌&&◌, ◌*◌}
+use Rattle.std.proofs.Common.{◌≡◌, ◌∙◌, ℕ, ◌+◌, ◌<◌, ◌≤◌, Bool, true, false, cond, not, List, [], ◌∷◌, ◌++◌, length, Option, Some, None, refl, sym, ap, subst, inl, inr, arith, append_assoc}
+use Rattle.std.specs.Prelude.{filter, find, option_map, ◌&&◌}
 use Rattle.std.specs.List.{All, AllByRecursion}
 use Rattle.std.proofs.lemmas.Bool.{lt-ltb, le-ltb, cases_lt}
 use Rattle.std.proofs.lemmas.Bool.Decides.{eqb_tells}
@@ -226,8 +226,13 @@ module _ (old view : AgentState) (now after : ℕ) (given : List Output) (is : I
 
       pub renewing_fewer : length (due now next.header.lease session next.agent.leases) < length (due now view.header.lease after view.agent.leases)
       renewing_fewer =
-          omega (arith, fewer, ap (λ (a : AgentState). length (due now a.header.lease session a.agent.leases)) next_is,
-          ap (λ (l : ℕ). length (due now l session renewed.agent.leases)) lease_is, ap (λ (l : ℕ). length (due now l after view.agent.leases)) lease_is)
+          omega (
+            arith,
+            fewer,
+            ap (λ (a : AgentState). length (due now a.header.lease session a.agent.leases)) next_is,
+            ap (λ (l : ℕ). length (due now l session renewed.agent.leases)) lease_is,
+            ap (λ (l : ℕ). length (due now l after view.agent.leases)) lease_is,
+          )
 
   module _ (found : first_due now view.header.lease after view.agent.leases ≡ None) where
     none : due now old.header.lease after view.agent.leases ≡ []

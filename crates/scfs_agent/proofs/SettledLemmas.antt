@@ -13,10 +13,10 @@ use Rattle.scfs_model.specs.Reading.{piece_in, is_awaited, with_piece, read_on, 
 use Rattle.scfs_model.specs.Storing.{is_new_ack, with_ack, store_on, store_turn}
 use Rattle.scfs_model.specs.SessionSteps.{Sight}
 use Rattle.scfs_model.specs.Sayings.{Saying}
-use Rattle.scfs_model.specs.Agents.{Agent, Opening, Waiting, For_step, For_clouds, For_close, Closed, Upload, Request, Sent, Reaction, silent, followed}
+use Rattle.scfs_model.specs.Agents.{Agent, Opening, Closed, Upload, Request, Sent, Reaction, silent, followed}
 use Rattle.scfs_model.specs.Opens.{Found, As_empty, On_clouds, reads, takes, open_hears, open_turns, gives_up, tallied, sighted}
 use Rattle.scfs_model.specs.Closes.{stores, upload_hears, upload_turns, with_storing}
-use Rattle.scfs_model.specs.Reactions.{idle, to_open, to_upload, to_work, next_begun, begun}
+use Rattle.scfs_model.specs.Reactions.{next_begun, begun}
 use Rattle.scfs_agent.specs.Settled.{settled, HasBegun}
 
 same_reaction : (agent agent' : Agent Row) (says says' : List Saying) (steps steps' : List (Request Row)) (sent sent' : List Sent) (ranked ranked' : List RankFacts)

@@ -200,6 +200,7 @@ told_fits lease pending request reply o is = by (pending_step pending request) i
   of (Of_names x r) replied fits opens = absurd cc
   of (Of_locks x r) replied fits opens = absurd cc
   of (Of_sessions x r) replied fits opens = session_fits lease request x r reply replied fits opens
+
   by : (p : Option (Request Row)) → IsIts p (outcome_step o) → FitsReply p reply
   by None its = tt
   by (Some x) its = λ opens. of o is.replied is.fits (ap is_open (sym its) ∙ opens)

@@ -6,7 +6,6 @@ use Rattle.scfs_model.specs.Asked.{is_answer_to}
 use Rattle.scfs_model.specs.Layers.{Row}
 use Rattle.scfs_model.specs.Storing.{is_ack}
 use Rattle.scfs_model.specs.Agents.{For_close, Reaction}
-use Rattle.scfs_agent.specs.State.{AgentState}
 use Rattle.scfs_agent.specs.Views.{asked_of}
 use Rattle.scfs_agent.specs.Outputs.{outputs_of}
 use Rattle.scfs_agent.proofs.AckLemmas.{upload_more, acked_as}

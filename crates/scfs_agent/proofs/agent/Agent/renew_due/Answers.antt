@@ -1,7 +1,6 @@
-use Rattle.std.proofs.Common.{List, sym, ◌∙◌, subst, arith, ◌≤◌}
+use Rattle.std.proofs.Common.{sym, ◌∙◌, subst, ◌≤◌}
 use Rattle.scfs_agent.specs.State.{AgentState}
 use Rattle.scfs_agent.specs.Keeping.{AreLeases}
-use Rattle.scfs_agent.specs.declared.types.Output.{Output}
 use Rattle.scfs_agent.proofs.RenewalLemmas.{IsRenewing, renewing_first, renewing_more, renewing_fewer, renewed_gives, renewed_after}
 use Rattle.scfs_agent.proofs.agent.Agent.renew_due.Goals as goal
 

@@ -1,13 +1,12 @@
-use Rattle.std.proofs.Common.{◌≡◌, ◌+◌, ◌*◌, ◌∙◌, List, Option, IfOk, OnOk, true, length, map, ap, sym, subst, refl}
+use Rattle.std.proofs.Common.{◌≡◌, ◌+◌, ◌*◌, ◌∙◌, List, Option, IfOk, OnOk, true, length, ap, sym, subst, refl}
 use Rattle.scfs_model.specs.Layers.{Row}
 use Rattle.scfs_model.specs.Agents.{Request}
 use Rattle.scfs_agent.specs.State.{AgentState, given_now}
-use Rattle.scfs_agent.specs.Views.{request_of, life_of, closed_in}
+use Rattle.scfs_agent.specs.Views.{life_of, closed_in}
 use Rattle.scfs_agent.specs.Keeping.{FitsAsking}
-use Rattle.scfs_agent.specs.Telling.{FitsReply, first_place, is_numbered, pending_step, reads_version}
+use Rattle.scfs_agent.specs.Telling.{FitsReply, pending_step, reads_version}
 use Rattle.scfs_agent.specs.declared.types.Output.{Output}
 use Rattle.scfs_agent.specs.declared.work.Pending.{Pending}
-use Rattle.scfs_agent.specs.declared.work.Work.{Work}
 use Rattle.scfs_agent.proofs.KeptLemmas.{kept_told}
 use Rattle.scfs_agent.proofs.PendingLemmas.{All-get, fewer_calls, step_then, found_there, told_then, untold_did}
 use Rattle.scfs_agent.proofs.agent.Agent.told.Goals as goal
@@ -56,7 +55,7 @@ told_step-requires-clause-ranks c =
     c.args.self.now _ c.self.view_is refl
     (λ (p : Option (Request Row)). reads_version p c.args.reply.now.result ≡ true → length c.args.ranks.now ≡ 3 * c.self.inside.header.f + 1)
     (subst (λ (a : AgentState). reads_version (pending_step c.args.self.now.agent.pending c.args.request) c.args.reply.now.result ≡ true
-        → length c.args.ranks.now ≡ 3 * a.header.f + 1) (sym c.self.view_is) c.requires.ranks)
+    → length c.args.ranks.now ≡ 3 * a.header.f + 1) (sym c.self.view_is) c.requires.ranks)
 
 pub returns-clause-gives : goal.returns-clause-gives
 returns-clause-gives c =

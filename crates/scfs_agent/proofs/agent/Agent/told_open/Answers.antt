@@ -24,9 +24,9 @@ locked c names r is fits =
     elim c.if-writes.branch [
       | then-writes+in_ok-lease-in-Did w ↦
           let fit = lock_fits old.header.lease c.args.request c.args.writes names c.args.session r c.args.reply.now is fits
-              (did_is c.args.reply.now.result _ _ _ c.in-Did.is) w.if-writes.true in
+          (did_is c.args.reply.now.result _ _ _ c.in-Did.is) w.if-writes.true in
           let until : w.saturating_add.result ≡ c.args.reply.now.now + old.header.lease =
-              omega (arith, fit, w.saturating_add.ensures, ap (λ (a : AgentState). a.header.lease) w.lease.view_is) in
+          omega (arith, fit, w.saturating_add.ensures, ap (λ (a : AgentState). a.header.lease) w.lease.view_is) in
           w.self-is ∙ w.in_ok-lease-in-Did.ensures ∙ ap (λ (n : ℕ). record old { agent = leased old.agent c.args.session n }) until
           ∙ ap (λ (b : Bool). lock b (c.args.reply.now.now + old.header.lease)) (sym w.if-writes.true)
       | else-writes w ↦ w.self-is ∙ ap (λ (b : Bool). lock b (c.args.reply.now.now + old.header.lease)) (sym w.if-writes.false)
