@@ -27,7 +27,8 @@ module _ (old v : AgentState) (view_is : v ≡ old) (clouds : List ℕ) (more : 
   asked : asked_of more ≡ machine.asked_of old.no old.agent.incarnation old.agent.requests clouds
   asked = numbered ∙ ap (λ (w : AgentState). machine.asked_of w.no w.agent.incarnation w.agent.requests clouds) view_is
 
-  pub fits : (body : (c : ℕ) → CloudRequest) (given : List Output) → given ≡ sent_outputs (sent_to body (asked_of more)) → All (λ c. c < 3 * old.header.f + 1) clouds
+  pub fits : (body : (c : ℕ) → CloudRequest) (given : List Output) → given ≡ sent_outputs (sent_to body (asked_of more))
+      → All (λ c. c < 3 * old.header.f + 1) clouds
       → All (FitsOutput old.header.f) given
   fits body given e all =
       All-same (FitsOutput old.header.f) given _ (e ∙ ap (λ (xs : List machine.Asked). sent_outputs (sent_to body xs)) asked)

@@ -14,7 +14,8 @@ use Rattle.scfs_agent.specs.Settled.{settled, HasBegun}
 use Rattle.scfs_agent.proofs.SettledLemmas.{settled_same}
 
 -- no session of the number is taken away
-remove_by : (b : Bool) (e : ℕ × Session) (es rest : OpenSessions) (found : Option Session) → cond b (Some e.1) found ≡ None → (found ≡ None → rest ≡ es)
+remove_by : (b : Bool) (e : ℕ × Session) (es rest : OpenSessions) (found : Option Session) → cond b (Some e.1) found ≡ None
+    → (found ≡ None → rest ≡ es)
     → cond b es (e ∷ rest) ≡ e ∷ es
 remove_by true e es rest found none h = cc
 remove_by false e es rest found none h = ap (λ (xs : OpenSessions). e ∷ xs) (h none)
@@ -39,7 +40,8 @@ abbrev pub with_sessions : AgentState → OpenSessions → AgentState
 with_sessions w sessions = record w { agent = record w.agent { sessions = sessions } }
 
 -- the close of a session, said of the agent before
-module _ (old v : AgentState) (view_is : v ≡ old) (h : ℕ) (none : old.agent.closed ≡ []) (rest : OpenSessions) (left : rest ≡ ended v.agent.sessions h) where
+module _ (old v : AgentState) (view_is : v ≡ old) (h : ℕ) (none : old.agent.closed ≡ []) (rest : OpenSessions) (left : rest
+    ≡ ended v.agent.sessions h) where
   abbrev closing : Reaction Row
   closing = closes old h none (session_of old.agent.sessions h)
 

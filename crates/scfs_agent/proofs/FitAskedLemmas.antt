@@ -136,7 +136,8 @@ module _ (s : Setup) (a : ℕ) (small : a < 2 ^ 8) where
   upload_turned agent x u fits may =
       storing agent x (with_storing u (record u.storing { turns = u.storing.turns + 1 })) (store_turn s u.storing) fits may
 
-  of_closed : (agent : Agent Row) (on : Agent Row → Closed Row → Upload Row → Reaction Row) → ForUploads on → (rest : List (Closed Row)) (x : Closed Row)
+  of_closed : (agent : Agent Row) (on : Agent Row → Closed Row → Upload Row → Reaction Row) → ForUploads on
+      → (rest : List (Closed Row)) (x : Closed Row)
       → (u : Option (Upload Row)) → agent.incarnation < 2 ^ 24 → MayUpload a agent.incarnation u → Fit (to_closed agent on rest x u)
   of_closed agent on each rest x None fits may = (tt, refl)
   of_closed agent on each rest x (Some u) fits may = each (record agent { closed = rest }) x u fits may
@@ -168,11 +169,13 @@ module _ (s : Setup) (a : ℕ) (small : a < 2 ^ 8) where
   abbrev LeavesCloses : Agent Row → Reaction Row → Type 0
   LeavesCloses agent r = Fit r × (r.agent.incarnation ≡ agent.incarnation) × (r.agent.closed ≡ agent.closed)
 
-  reading : (agent : Agent Row) (o : Opening Row) (next : Next (List ℕ)) → agent.incarnation < 2 ^ 24 → LeavesCloses agent (reads s rows a agent o next)
+  reading : (agent : Agent Row) (o : Opening Row) (next : Next (List ℕ)) → agent.incarnation < 2 ^ 24
+      → LeavesCloses agent (reads s rows a agent o next)
   reading agent o Goes_on fits = ((tt, refl), refl, refl)
   reading agent o (Asks clouds) fits = ((tt, refl), refl, refl)
   reading agent o (Has bytes) fits = ((tt, refl), refl, refl)
-  reading agent o (Gives_up good) fits = chosen (LeavesCloses agent) o.writes _ _ (((((small, fits), tt), tt), refl), refl, refl) ((tt, refl), refl, refl)
+  reading agent o (Gives_up good) fits =
+      chosen (LeavesCloses agent) o.writes _ _ (((((small, fits), tt), tt), refl), refl, refl) ((tt, refl), refl, refl)
 
   heard : (agent : Agent Row) (o : Opening Row) (c : ℕ) (request : RequestNo) (answer : CloudAnswer) → agent.incarnation < 2 ^ 24
       → LeavesCloses agent (open_hears s rows a agent o c request answer)
@@ -204,11 +207,13 @@ module _ (s : Setup) (a : ℕ) (small : a < 2 ^ 8) where
 
   -- what the space replied
 
-  sees : (agent : Agent Row) (given : Given) (h : ℕ) (writes : Bool) (sight : Sight Row) (at : Found Row) → Servable (sighted s rows a agent given h writes sight at)
+  sees : (agent : Agent Row) (given : Given) (h : ℕ) (writes : Bool) (sight : Sight Row) (at : Found Row)
+      → Servable (sighted s rows a agent given h writes sight at)
   sees agent given h writes sight As_empty = tt
   sees agent given h writes sight (On_clouds v) = tt
 
-  told_of_open : (agent : Agent Row) (given : Given) (request : RequestNo) (h : ℕ) (r : OrRefusal (Session_outcome Row)) → Servable (told_open s rows a agent given request h r)
+  told_of_open : (agent : Agent Row) (given : Given) (request : RequestNo) (h : ℕ) (r : OrRefusal (Session_outcome Row))
+      → Servable (told_open s rows a agent given request h r)
   told_of_open agent given request h (Ok (Sees sight)) = sees agent given h false sight (found sight)
   told_of_open agent given request h (Ok (Locks sight l)) = sees (leased agent h l.until) given h true sight (found sight)
   told_of_open agent given request h (Ok (Completes session v n)) = tt
@@ -250,7 +255,8 @@ module _ (s : Setup) (a : ℕ) (small : a < 2 ^ 8) where
       let due = filter (λ (l : Lease). is_due given.now s.header.lease l && not l.asked) agent.leases in
       let first = renewed a agent due in
       let next = (renews_all rows a agent due).agent in
-      both (renews_all rows a agent due) (λ next. to_work next (open_turns s rows a) (upload_turns s a)) (first.asked small (below agent may), first.ranked)
+      both (renews_all rows a agent due) (λ next. to_work next (open_turns s rows a) (upload_turns s a))
+      (first.asked small (below agent may), first.ranked)
       (of_work next (open_turns s rows a) (upload_turns s a) turned upload_turned (subst (λ n. n < 2 ^ 24) (sym first.incarnation) (below agent may))
       (same_closes agent next first.incarnation first.closed may.closes))
   responds agent given Crashes may quiet = (tt, refl)
@@ -273,7 +279,8 @@ module _ (header : Header) (a : ℕ) (agent : Agent Row) (given : Given) (may : 
   all_asked_fit (Tells request o) =
       let first : Reaction Row = responded (under header) rows a agent given (Tells request o) in
       each_append CanBeAsked first.steps (next_begun (under header) rows a first.agent first.agent.closed).steps
-      (chosen (Servable (under header) a may.number) (is_pending agent request) _ _ (told_of (under header) a may.number (untold agent request) given request o) tt)
+      (chosen (Servable (under header) a may.number) (is_pending agent request) _ _
+      (told_of (under header) a may.number (untold agent request) given request o) tt)
       (of_begun (under header) a may.number first.agent first.agent.closed).0
   all_asked_fit (Calls x) = (fit (Calls x) tt).0
   all_asked_fit (Hears c request answer) = (fit (Hears c request answer) tt).0

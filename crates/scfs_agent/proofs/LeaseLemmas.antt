@@ -58,8 +58,10 @@ outputs_followed a lease first second silent unsent =
 abbrev work : AgentState → Reaction Row
 work a = to_work a.agent (open_turns (setup a) rows a.no) (upload_turns (setup a) a.no)
 
-pub turned_gives : (old middle : AgentState) (now : ℕ) (given more all : List Output) → given ≡ outputs_of old (renews_due rows old.no old.agent now old.header.lease)
-    → middle ≡ record old { agent = (renews_due rows old.no old.agent now old.header.lease).agent } → more ≡ outputs_of middle (work middle) → all ≡ given ++ more
+pub turned_gives : (old middle : AgentState) (now : ℕ) (given more all : List Output) → given
+    ≡ outputs_of old (renews_due rows old.no old.agent now old.header.lease)
+    → middle ≡ record old { agent = (renews_due rows old.no old.agent now old.header.lease).agent } → more ≡ outputs_of middle (work middle) → all
+    ≡ given ++ more
     → all ≡ outputs_of old (turns (setup old) rows old.no old.agent (given_now now []))
 turned_gives old middle now given more all first left second joined =
     let due = filter (λ (l : Lease). is_due now old.header.lease l && not l.asked) old.agent.leases in
@@ -67,7 +69,8 @@ turned_gives old middle now given more all first left second joined =
     joined
     ∙ ap (λ (xs : List Output). xs ++ more) first
     ∙ ap (λ (xs : List Output). outputs_of old r ++ xs) (second ∙ ap (λ (a : AgentState). outputs_of a (work a)) left)
-    ∙ sym (outputs_followed old.no old.header.lease r (work (record old { agent = r.agent })) (renewed old.no old.agent due).says (renewed old.no old.agent due).sent)
+    ∙ sym (outputs_followed old.no old.header.lease r (work (record old { agent = r.agent })) (renewed old.no old.agent due).says
+    (renewed old.no old.agent due).sent)
 
 -- what is told of locks asks nothing, and leaves the closed sessions
 pub record IsCalm (agent : Agent Row) (r : Reaction Row) : Type 0 where

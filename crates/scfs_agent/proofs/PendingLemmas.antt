@@ -54,7 +54,8 @@ module _ (request : RequestNo) where
   abbrev test : Request Row → Bool
   test = is_numbered request
 
-  any_by : (b : Bool) (x : Request Row) (any : Bool) (found : Option (Request Row)) → any ≡ is_some found → (b || any) ≡ is_some (cond b (Some x) found)
+  any_by : (b : Bool) (x : Request Row) (any : Bool) (found : Option (Request Row)) → any ≡ is_some found → (b || any)
+      ≡ is_some (cond b (Some x) found)
   any_by true x any found e = refl
   any_by false x any found e = e
 
@@ -130,13 +131,15 @@ step_by_call (works.Fetch fetch) n l = absurd (omega (arith, l))
 step_by_call (works.Upload upload) n l = absurd (omega (arith, l))
 
 -- what is pending, by its place
-module _ (request : RequestNo) (pending slice : List Pending) (at : ℕ) (same : slice ≡ pending) (place : at ≡ first_place (is_numbered request) (map request_of slice)) where
+module _ (request : RequestNo) (pending slice : List Pending) (at : ℕ) (same : slice ≡ pending) (place : at
+    ≡ first_place (is_numbered request) (map request_of slice)) where
   place_is : first_place (is_numbered request) (map request_of pending) ≡ at
   place_is = ap (λ (xs : List Pending). first_place (is_numbered request) (map request_of xs)) (sym same) ∙ sym place
 
   module _ (old v : AgentState) (view_is : v ≡ old) (here : v.agent.pending ≡ map request_of pending) where
     before : pending_step old.agent.pending request ≡ pending_step (map request_of pending) request
-    before = ap (λ (a : AgentState). pending_step a.agent.pending request) (sym view_is) ∙ ap (λ (ps : List (Request Row)). pending_step ps request) here
+    before = ap (λ (a : AgentState). pending_step a.agent.pending request) (sym view_is)
+        ∙ ap (λ (ps : List (Request Row)). pending_step ps request) here
 
     pub none_there : at ≡ length pending → pending_step old.agent.pending request ≡ None
     none_there behind = before ∙ none_pending request (map request_of pending) (place_is ∙ behind ∙ sym (length-map pending request_of))
@@ -196,7 +199,8 @@ module _ (request : RequestNo) (pending slice : List Pending) (at : ℕ) (same :
       pub told_then : (given : Given) (reply : Reply) (P : List Output × AgentState → Type 0)
           → ((o : Outcome Row) → outcome_step o ≡ step_of x.asking → IsReplyTo view.header.lease request o reply → FitsOutcome o
           → P (did view (told (setup view) rows view.no view.agent given request o)))
-          → (o : Outcome Row) → IsTold old.header.lease old.agent.pending request reply o → P (did old (tells (setup old) rows old.no old.agent given request o))
+          → (o : Outcome Row) → IsTold old.header.lease old.agent.pending request reply o
+          → P (did old (tells (setup old) rows old.no old.agent given request o))
       told_then given reply P each o is =
           subst P (told_did given o)
           (each o (sym (found_there (λ p. IsIts p (outcome_step o)) is.asked))

@@ -37,7 +37,8 @@ use Rattle.scfs_agent.proofs.ToldLemmas.{sight_is}
 pub answers_end : (allows : RankFacts → ℕ → Type 0) (all rest : List RankFacts) (ranks : List ℕ) → rest ≡ []
     → ((more : List ℕ) → Answers allows rest more → Answers allows all (ranks ++ more)) → Answers allows all ranks
 answers_end allows all rest ranks none h =
-    subst (λ (xs : List ℕ). Answers allows all xs) (append-nil ranks) (h [] (subst (λ (facts : List RankFacts). Answers allows facts []) (sym none) tt))
+    subst (λ (xs : List ℕ). Answers allows all xs) (append-nil ranks)
+    (h [] (subst (λ (facts : List RankFacts). Answers allows facts []) (sym none) tt))
 
 pub shows_done : (result : StepResult) → IsDone result → shows_version result ≡ has_version (sight_of result)
 shows_done (results.Did bound taken shown) done = refl
@@ -51,7 +52,8 @@ module _ (s : Setup) (a : ℕ) (given : Given) (agent : Agent Row) where
   asked b = cond b agent.tallies []
 
   sighted_by : (h : ℕ) (writes : Bool) (sight : machine.Sight Row) (b : Bool) (o : Option Row)
-      → (sighted s rows a agent given h writes sight (if b then As_empty else found_version o)).ranked ≡ asked (not b && is_some (option_map row_said o))
+      → (sighted s rows a agent given h writes sight (if b then As_empty else found_version o)).ranked
+      ≡ asked (not b && is_some (option_map row_said o))
   sighted_by h writes sight true None = refl
   sighted_by h writes sight true (Some v) = refl
   sighted_by h writes sight false None = refl
@@ -83,7 +85,8 @@ module _ (s : Setup) (a : ℕ) (given : Given) (agent : Agent Row) where
   told_asks lease request (Of_sessions (Open_read names h) (Err why)) reply is =
       ap (asked s a given agent) (sym (shows_refused (step_of (session_plan lease request (Open_read names h))) why reply.result is))
   told_asks lease request (Of_sessions (Open_write names h) (Ok (Sees sight))) reply is = absurd is
-  told_asks lease request (Of_sessions (Open_write names h) (Ok (Locks sight l))) reply is = saw_asks s a given (leased agent h l.until) request h true sight reply is.0
+  told_asks lease request (Of_sessions (Open_write names h) (Ok (Locks sight l))) reply is =
+      saw_asks s a given (leased agent h l.until) request h true sight reply is.0
   told_asks lease request (Of_sessions (Open_write names h) (Ok (Completes session v n))) reply is = absurd is
   told_asks lease request (Of_sessions (Open_write names h) (Err why)) reply is =
       ap (asked s a given agent) (sym (shows_refused (step_of (session_plan lease request (Open_write names h))) why reply.result is))
@@ -96,7 +99,8 @@ tells_asks s a lease agent given request o reply is its =
     ap (λ (b : Bool). (if b then told s rows a (untold agent request) given request o else silent agent).ranked) (any_found request agent.pending)
     ∙ by (pending_step agent.pending request) its where
       by : (p : Option (Request Row)) → IsIts p (outcome_step o)
-          → (if is_some p then told s rows a (untold agent request) given request o else silent agent).ranked ≡ cond (reads_version p reply.result) agent.tallies []
+          → (if is_some p then told s rows a (untold agent request) given request o else silent agent).ranked
+          ≡ cond (reads_version p reply.result) agent.tallies []
       by None e = refl
       by (Some x) e =
           told_asks s a given (untold agent request) lease request o reply is

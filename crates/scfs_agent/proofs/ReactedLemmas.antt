@@ -28,7 +28,8 @@ module _ (s : Setup) (a : ℕ) where
   one_begun (x ∷ []) h = h
   one_begun (x ∷ y ∷ rest) h = absurd h
 
-  closed_begun : (agent : Agent Row) (x : Closed Row) (rest : List (Closed Row)) (r : OrRefusal (Session_outcome Row)) → rest ≡ [] → agent.closed ≡ rest → is_some x.upload ≡ true
+  closed_begun : (agent : Agent Row) (x : Closed Row) (rest : List (Closed Row)) (r : OrRefusal (Session_outcome Row)) → rest ≡ [] → agent.closed
+      ≡ rest → is_some x.upload ≡ true
       → HasBegun (told_closed s rows a agent x r).agent.closed
   closed_begun agent x rest (Ok (Completes session v n)) none same begun = subst HasBegun (sym (same ∙ none)) tt
   closed_begun agent x rest (Ok (Sees sight)) none same begun = begun
@@ -48,7 +49,8 @@ module _ (s : Setup) (a : ℕ) where
   open_begun : (agent : Agent Row) (given : Given) (request : RequestNo) (h : ℕ) (r : OrRefusal (Session_outcome Row)) → HasBegun agent.closed
       → HasBegun (told_open s rows a agent given request h r).agent.closed
   open_begun agent given request h (Ok (Sees sight)) begun = subst HasBegun (sym (saw_leaves agent given request h false sight)) begun
-  open_begun agent given request h (Ok (Locks sight l)) begun = subst HasBegun (sym (saw_leaves (leased agent h l.until) given request h true sight)) begun
+  open_begun agent given request h (Ok (Locks sight l)) begun =
+      subst HasBegun (sym (saw_leaves (leased agent h l.until) given request h true sight)) begun
   open_begun agent given request h (Ok (Completes session v n)) begun = begun
   open_begun agent given request h (Err why) begun = begun
 
@@ -82,7 +84,8 @@ module _ (on_open : Agent Row → Opening Row → Reaction Row) (on_upload : Age
   to_closed_begun agent x None one same e = cc
   to_closed_begun agent x (Some u) one same e = uploading (record agent { closed = [] }) x u refl
 
-  to_upload_begun : (agent : Agent Row) (xs : List (Closed Row)) → agent.closed ≡ xs → OneBegun xs → HasBegun (to_upload agent on_upload xs).agent.closed
+  to_upload_begun : (agent : Agent Row) (xs : List (Closed Row)) → agent.closed ≡ xs → OneBegun xs
+      → HasBegun (to_upload agent on_upload xs).agent.closed
   to_upload_begun agent [] same begun = subst HasBegun (sym same) tt
   to_upload_begun agent (x ∷ []) same begun = to_closed_begun agent x x.upload same refl begun
   to_upload_begun agent (x ∷ y ∷ rest) same begun = absurd begun

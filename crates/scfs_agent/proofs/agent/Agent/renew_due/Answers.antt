@@ -14,13 +14,15 @@ each-init c =
 pub each-smaller : goal.each-smaller
 each-smaller c =
     renewing_fewer c.args.self.now c.each.self c.args.now c.each.after c.each.given c.each.invariant c.in-Some.session c.next_due.ensures.rising
-    (sym c.next_due.ensures.due ∙ c.in-Some.is) c.renew.new.self c.in_ok-asked.asked c.extend.new.all c.in_ok-asked.ensures.after c.in_ok-asked.ensures.gives
+    (sym c.next_due.ensures.due
+    ∙ c.in-Some.is) c.renew.new.self c.in_ok-asked.asked c.extend.new.all c.in_ok-asked.ensures.after c.in_ok-asked.ensures.gives
     c.in_ok-extend.ensures c.in_ok-asked.ensures.asks
 
 pub each-preserved : goal.each-preserved
 each-preserved c =
     renewing_more c.args.self.now c.each.self c.args.now c.each.after c.each.given c.each.invariant c.in-Some.session c.next_due.ensures.rising
-    (sym c.next_due.ensures.due ∙ c.in-Some.is) c.renew.new.self c.in_ok-asked.asked c.extend.new.all c.in_ok-asked.ensures.after c.in_ok-asked.ensures.gives
+    (sym c.next_due.ensures.due
+    ∙ c.in-Some.is) c.renew.new.self c.in_ok-asked.asked c.extend.new.all c.in_ok-asked.ensures.after c.in_ok-asked.ensures.gives
     c.in_ok-extend.ensures c.in_ok-asked.ensures.asks
 
 pub returns-clause-gives : goal.returns-clause-gives

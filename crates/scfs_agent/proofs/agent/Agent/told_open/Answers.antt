@@ -35,11 +35,15 @@ locked c names r is fits =
 pub returns-after-writes-clause-gives : goal.returns-after-writes-clause-gives
 returns-after-writes-clause-gives c = λ names r same is fits.
     subst (λ (p : List Output × AgentState). IfOk c.saw.result (λ given. given ≡ p.0))
-    (open_did c.args.self.now c.if-writes.self (given_now c.args.now c.args.ranks.now) c.args.request c.args.writes names c.args.session r c.args.reply.now
-    c.sight_of-seen.result is (did_is c.args.reply.now.result _ _ _ c.in-Did.is) c.sight_of-seen.ensures (locked c names r is fits)) c.saw.ensures.gives
+    (open_did c.args.self.now c.if-writes.self (given_now c.args.now c.args.ranks.now) c.args.request c.args.writes names c.args.session r
+    c.args.reply.now
+    c.sight_of-seen.result is (did_is c.args.reply.now.result _ _ _ c.in-Did.is) c.sight_of-seen.ensures (locked c names r is fits))
+    c.saw.ensures.gives
 
 pub returns-after-writes-clause-after : goal.returns-after-writes-clause-after
 returns-after-writes-clause-after c = λ names r same is fits.
     subst (λ (p : List Output × AgentState). OnOk c.saw.result (c.saw.new.self ≡ p.1))
-    (open_did c.args.self.now c.if-writes.self (given_now c.args.now c.args.ranks.now) c.args.request c.args.writes names c.args.session r c.args.reply.now
-    c.sight_of-seen.result is (did_is c.args.reply.now.result _ _ _ c.in-Did.is) c.sight_of-seen.ensures (locked c names r is fits)) c.saw.ensures.after
+    (open_did c.args.self.now c.if-writes.self (given_now c.args.now c.args.ranks.now) c.args.request c.args.writes names c.args.session r
+    c.args.reply.now
+    c.sight_of-seen.result is (did_is c.args.reply.now.result _ _ _ c.in-Did.is) c.sight_of-seen.ensures (locked c names r is fits))
+    c.saw.ensures.after
