@@ -1,5 +1,5 @@
 -- The clouds that acknowledged an upload, as a list.
-use Rattle.std.proofs.Common.{◌≡◌, ◌≢◌, ℕ, ◌+◌, ◌-◌, ◌*◌, ◌<◌, ◌≤◌, zero, suc, List, [], ◌∷◌, length, Bool, true, false, cond, refl, sym, ap, ◌∙◌, subst, arith, ◌⊎◌, inl, inr}
+use Rattle.std.proofs.Common.{◌≡◌, ◌≢◌, ℕ, ◌+◌, ◌-◌, ◌*◌, ◌<◌, ◌≤◌, zero, suc, List, [], ◌∷◌, length, Bool, true, false, cond, refl, sym, ap, ◌∙◌, subst, arith}
 use Rattle.std.specs.Prelude.{◌==◌, ◌||◌, ◌&&◌, not, nat_lt, nat_le, filter, if◌then◌else◌}
 use Rattle.std.specs.FinSet as set
 use Rattle.std.specs.Cmp.{unsigned_tied}
@@ -16,14 +16,13 @@ use Rattle.scfs_quorum_write.specs.declared.progress.Progress.TheVariants as pro
 use Rattle.scfs_base.specs.declared.naming.RequestNo.{RequestNo}
 use Rattle.scfs_base.specs.declared.cloud.CloudAnswer.{CloudAnswer}
 use Rattle.scfs_model.specs.Lists.{is_in, below, put_by_number}
-use Rattle.scfs_model.specs.Format.{enough}
 use Rattle.scfs_model.specs.Asked.{is_answer_to}
 use Rattle.scfs_model.specs.Layers.{Row}
-use Rattle.scfs_model.specs.Next.{Next, Goes_on, Asks, Has, Gives_up}
+use Rattle.scfs_model.specs.Next.{Next, Goes_on, Has}
 use Rattle.scfs_model.specs.Storing.{is_ack, store_on}
 use Rattle.scfs_model.specs.Agents.{Agent, Reaction}
 use Rattle.scfs_model.specs.Agents as machine
-use Rattle.scfs_model.specs.Closes.{stores, upload_hears, upload_turns, with_storing}
+use Rattle.scfs_model.specs.Closes.{stores, upload_hears, with_storing}
 use Rattle.scfs_agent.specs.State.{AgentState, setup}
 use Rattle.scfs_agent.specs.Views.{acked_next, asked_of, acked_of, storing_of, upload_of, closed_of, row_of}
 use Rattle.scfs_agent.specs.Asking.{MayClose}
@@ -64,7 +63,8 @@ module _ (test : ℕ → Bool) (c : ℕ) where
   same_above : (a n : ℕ) → c < a → filter or_this (range_with_len a n) ≡ filter test (range_with_len a n)
   same_above a zero l = refl
   same_above a (suc n) l =
-      ap (λ (b : Bool). cond (b || test a) (a ∷ filter or_this (range_with_len (a + 1) n)) (filter or_this (range_with_len (a + 1) n))) (eqb_false a c (λ e. omega arith))
+      ap (λ (b : Bool). cond (b || test a) (a ∷ filter or_this (range_with_len (a + 1) n)) (filter or_this (range_with_len (a + 1) n)))
+      (eqb_false a c (λ e. omega arith))
       ∙ ap (λ (rest : List ℕ). cond (test a) (a ∷ rest) rest) (same_above (a + 1) n (omega arith))
 
   abbrev Puts : (a n : ℕ) → Type 0
@@ -112,12 +112,14 @@ module _ (test : ℕ → Bool) (c : ℕ) where
   not_in a zero l = refl
   not_in a (suc n) l = not_in_by (test a) a (filter test (range_with_len (a + 1) n)) l (not_in (a + 1) n (omega arith))
 
-  in_here : (a n : ℕ) → c ≡ a → (b : Bool) → is_in c (cond b (a ∷ filter test (range_with_len (a + 1) n)) (filter test (range_with_len (a + 1) n))) ≡ b
+  in_here : (a n : ℕ) → c ≡ a → (b : Bool) → is_in c (cond b (a ∷ filter test (range_with_len (a + 1) n)) (filter test (range_with_len (a + 1) n)))
+      ≡ b
   in_here a n same true = ap (λ (b : Bool). b || is_in c (filter test (range_with_len (a + 1) n))) (eq-eqb c a same)
   in_here a n same false = not_in (a + 1) n (omega arith)
 
   in_later : (a n : ℕ) → c ≢ a → (b : Bool)
-      → is_in c (cond b (a ∷ filter test (range_with_len (a + 1) n)) (filter test (range_with_len (a + 1) n))) ≡ is_in c (filter test (range_with_len (a + 1) n))
+      → is_in c (cond b (a ∷ filter test (range_with_len (a + 1) n)) (filter test (range_with_len (a + 1) n)))
+      ≡ is_in c (filter test (range_with_len (a + 1) n))
   in_later a n other true = ap (λ (b : Bool). b || is_in c (filter test (range_with_len (a + 1) n))) (eqb_false c a other)
   in_later a n other false = refl
 
@@ -149,7 +151,8 @@ filter_same_by b c x xs ys e f = cc
 pub filter_same : (p q : ℕ → Bool) (xs : List ℕ) → All (λ x. p x ≡ q x) xs → filter p xs ≡ filter q xs
 filter_same p q [] h = refl
 filter_same p q (x ∷ xs) h =
-    filter_same_by (p x) (q x) x (filter p xs) (filter q xs) (All-head (λ x. p x ≡ q x) x xs h) (filter_same p q xs (All-tail (λ x. p x ≡ q x) x xs h))
+    filter_same_by (p x) (q x) x (filter p xs) (filter q xs) (All-head (λ x. p x ≡ q x) x xs h)
+    (filter_same p q xs (All-tail (λ x. p x ≡ q x) x xs h))
 
 no_filter : (p : ℕ → Bool) (xs : List ℕ) → ((x : ℕ) → p x ≡ false) → filter p xs ≡ []
 no_filter p [] none = refl
@@ -244,7 +247,8 @@ counted_more f x c = λ same part l.
     (λ p was. counted_by f p c (set.contains p c) refl l was) x same part
 
 -- the clouds that did not acknowledge it
-pub missing_of : (x : Acks) → filter (λ c. not (set.contains (clouds_of x 0) c)) (below (3 * x.f + 1)) ≡ filter (λ c. not (is_in c (acked_of x))) (below (3 * x.f + 1))
+pub missing_of : (x : Acks) → filter (λ c. not (set.contains (clouds_of x 0) c)) (below (3 * x.f + 1))
+    ≡ filter (λ c. not (is_in c (acked_of x))) (below (3 * x.f + 1))
 missing_of x =
     filter_same _ _ (below (3 * x.f + 1))
     (All-weaker (λ c. c < 3 * x.f + 1) _ (λ c l. ap not (sym (in_acked x c l))) (below (3 * x.f + 1)) (all_below (3 * x.f + 1)))
@@ -265,19 +269,26 @@ module _ (a : AgentState) (agent : Agent Row) (upload : Upload) (inputs : ℕ) (
     as_new : (x : Acks) (b : Bool) → is_in c (acked_of x) ≡ b
         → upload_hears (setup a) a.no agent (closed_of upload) (upload_of (with_acks x)) c request answer
         ≡ (if not b
-        then stores (setup a) a.no agent (closed_of upload) (with_storing (upload_of (with_acks x)) (record (storing_of (with_acks x)) { acked = put_by_number c (acked_of x) }))
+        then stores (setup a) a.no agent (closed_of upload) (with_storing (upload_of (with_acks x)) (record (storing_of (with_acks x)) {
+          acked =
+              put_by_number c (acked_of x);
+        }))
         (store_on (setup a) (storing_of (with_acks x)))
         else stores (setup a) a.no agent (closed_of upload) (upload_of (with_acks x)) Goes_on)
     as_new x b e =
         let either : Bool → Reaction Row = λ t. if t
-        then stores (setup a) a.no agent (closed_of upload) (with_storing (upload_of (with_acks x)) (record (storing_of (with_acks x)) { acked = put_by_number c (acked_of x) }))
+        then stores (setup a) a.no agent (closed_of upload) (with_storing (upload_of (with_acks x)) (record (storing_of (with_acks x)) {
+          acked =
+              put_by_number c (acked_of x);
+        }))
         (store_on (setup a) (storing_of (with_acks x)))
         else stores (setup a) a.no agent (closed_of upload) (upload_of (with_acks x)) Goes_on in
         ap either (ap (λ (t : Bool). t && not (is_in c (acked_of x))) mine ∙ ap not e)
 
     same_by : (p : Clouds) (b : Bool) → set.contains p c ≡ b → Same (of_part a.header.f p)
     same_by p true e = λ was.
-        ap (λ (x : Acks). stores (setup a) a.no agent (closed_of upload) (upload_of (with_acks x)) (acked_next (progress (acks a.header.f p) c 0))) (same_acks a.header.f p c e)
+        ap (λ (x : Acks). stores (setup a) a.no agent (closed_of upload) (upload_of (with_acks x)) (acked_next (progress (acks a.header.f p) c 0)))
+        (same_acks a.header.f p c e)
         ∙ ap (λ (t : Bool). stores (setup a) a.no agent (closed_of upload) (upload_of (with_acks (acks a.header.f p)))
         (acked_next (if t then progresses.Already
         else if not (is_complete (acks a.header.f p)) && is_complete (more a.header.f p c) then progresses.Done
@@ -289,8 +300,10 @@ module _ (a : AgentState) (agent : Agent Row) (upload : Upload) (inputs : ℕ) (
         let enough_of = 3 * f + 1 - f in
         let u : List ℕ → machine.Upload Row = λ acked.
         with_storing (upload_of (with_acks (acks f p))) (record (storing_of (with_acks (acks f p))) { acked = acked }) in
-        let put : Next (Unit {0}) → Reaction Row = λ next. stores (setup a) a.no agent (closed_of upload) (u (put_by_number c (acked_of (acks f p)))) next in
-        ap (λ (acked : List ℕ). stores (setup a) a.no agent (closed_of upload) (u acked) (acked_next (progress (acks f p) c 0))) (acked_more f p c l e)
+        let put : Next (Unit {0}) → Reaction Row =
+        λ next. stores (setup a) a.no agent (closed_of upload) (u (put_by_number c (acked_of (acks f p)))) next in
+        ap (λ (acked : List ℕ). stores (setup a) a.no agent (closed_of upload) (u acked) (acked_next (progress (acks f p) c 0)))
+        (acked_more f p c l e)
         ∙ ap (λ (t : Bool). put (acked_next (if t then progresses.Already
         else if not (is_complete (acks f p)) && is_complete (more f p c) then progresses.Done
         else progresses.Counted (count_of (more f p c))))) e
@@ -302,7 +315,8 @@ module _ (a : AgentState) (agent : Agent Row) (upload : Upload) (inputs : ℕ) (
         ∙ sym (as_new (acks f p) false (in_acked (acks f p) c l ∙ e))
 
     -- what a tracker makes of an acknowledgement of its Puts is what the machine makes of it
-    pub hears_as : stores (setup a) a.no agent (closed_of upload) (upload_of (with_acks (with_ack upload.acks c 0))) (acked_next (progress upload.acks c 0))
+    pub hears_as : stores (setup a) a.no agent (closed_of upload) (upload_of (with_acks (with_ack upload.acks c 0)))
+        (acked_next (progress upload.acks c 0))
         ≡ upload_hears (setup a) a.no agent (closed_of upload) (upload_of upload) c request answer
     hears_as = on_acks a.header.f Same (λ p. same_by p (set.contains p c) refl) upload.acks is.acks is.part is.counted
 
@@ -312,7 +326,8 @@ module _ (a : AgentState) (agent : Agent Row) (upload : Upload) (inputs : ℕ) (
         ≡ upload_hears (setup a) a.no agent (closed_of upload) (upload_of upload) c request answer
     acked_as y p after is_progress =
         ap (λ (x : Acks). stores (setup a) a.no agent (closed_of upload) (upload_of (with_acks x)) (acked_next p)) after
-        ∙ ap (λ (q : Progress). stores (setup a) a.no agent (closed_of upload) (upload_of (with_acks (with_ack upload.acks c 0))) (acked_next q)) is_progress
+        ∙ ap (λ (q : Progress). stores (setup a) a.no agent (closed_of upload) (upload_of (with_acks (with_ack upload.acks c 0))) (acked_next q))
+        is_progress
         ∙ hears_as
 
   -- another answer
@@ -321,7 +336,10 @@ module _ (a : AgentState) (agent : Agent Row) (upload : Upload) (inputs : ℕ) (
       ≡ stores (setup a) a.no agent (closed_of upload) (upload_of upload) Goes_on
   hears_other c request answer other =
       let either : Bool → Reaction Row = λ t. if t
-      then stores (setup a) a.no agent (closed_of upload) (with_storing (upload_of upload) (record (storing_of upload) { acked = put_by_number c (acked_of upload.acks) }))
+      then stores (setup a) a.no agent (closed_of upload) (with_storing (upload_of upload) (record (storing_of upload) {
+        acked =
+            put_by_number c (acked_of upload.acks);
+      }))
       (store_on (setup a) (storing_of upload))
       else stores (setup a) a.no agent (closed_of upload) (upload_of upload) Goes_on in
       ap either (ap (λ (t : Bool). t && not (is_in c (acked_of upload.acks))) other)

@@ -1,22 +1,15 @@
 -- The requests that an agent makes of clouds.
-use Rattle.std.proofs.Common.{◌≡◌, ℕ, ◌+◌, ◌*◌, ◌<◌, List, [], ◌∷◌, ◌++◌, length, suc, Some, refl, sym, ap, ◌∙◌}
+use Rattle.std.proofs.Common.{◌≡◌, ℕ, ◌+◌, ◌*◌, ◌<◌, List, [], ◌∷◌, ap, ◌∙◌}
 use Rattle.std.specs.List.{All}
-use Rattle.std.proofs.lemmas.List.{map-append, length-map}
 use Rattle.std.proofs.lemmas.List.Elements.{All-nil, All-cons, All-head, All-tail, All-same}
 use Rattle.scfs_base.specs.declared.cloud.CloudRequest.{CloudRequest}
 use Rattle.scfs_model.specs.Asked as machine
-use Rattle.scfs_model.specs.Layers.{Row, rows}
-use Rattle.scfs_model.specs.Agents.{Closed, For_clouds, For_close}
-use Rattle.scfs_model.specs.Opens.{asks_gets}
-use Rattle.scfs_model.specs.Closes.{asks_puts}
-use Rattle.scfs_agent.specs.State.{AgentState, setup}
-use Rattle.scfs_agent.specs.Views.{asked_of, opening_of, upload_of, closed_of}
-use Rattle.scfs_agent.specs.Outputs.{outputs_of, sent_outputs, sent_to, get_body, put_body}
+use Rattle.scfs_agent.specs.State.{AgentState}
+use Rattle.scfs_agent.specs.Views.{asked_of}
+use Rattle.scfs_agent.specs.Outputs.{sent_outputs, sent_to}
 use Rattle.scfs_agent.specs.Keeping.{FitsOutput}
 use Rattle.scfs_agent.specs.declared.types.Output.{Output}
 use Rattle.scfs_agent.specs.declared.work.Asked.{Asked}
-use Rattle.scfs_agent.specs.declared.work.Fetch.{Fetch}
-use Rattle.scfs_agent.specs.declared.work.Upload.{Upload}
 
 -- the clouds that are asked are those of the list
 pub asked_fit : (f : ℕ) (body : (c : ℕ) → CloudRequest) (a incarnation drawn : ℕ) (clouds : List ℕ) → All (λ c. c < 3 * f + 1) clouds
@@ -34,7 +27,8 @@ module _ (old v : AgentState) (view_is : v ≡ old) (clouds : List ℕ) (more : 
   asked : asked_of more ≡ machine.asked_of old.no old.agent.incarnation old.agent.requests clouds
   asked = numbered ∙ ap (λ (w : AgentState). machine.asked_of w.no w.agent.incarnation w.agent.requests clouds) view_is
 
-  pub fits : (body : (c : ℕ) → CloudRequest) (given : List Output) → given ≡ sent_outputs (sent_to body (asked_of more)) → All (λ c. c < 3 * old.header.f + 1) clouds
+  pub fits : (body : (c : ℕ) → CloudRequest) (given : List Output) → given ≡ sent_outputs (sent_to body (asked_of more))
+      → All (λ c. c < 3 * old.header.f + 1) clouds
       → All (FitsOutput old.header.f) given
   fits body given e all =
       All-same (FitsOutput old.header.f) given _ (e ∙ ap (λ (xs : List machine.Asked). sent_outputs (sent_to body xs)) asked)

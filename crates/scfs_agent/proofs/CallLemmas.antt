@@ -1,32 +1,21 @@
 -- Calls on sessions.
-use Rattle.std.proofs.Common.{◌≡◌, ◌≢◌, ℕ, ◌+◌, [], ◌∷◌, length, Bool, true, false, cond, Option, Some, None, Result, Ok, Err, refl, sym, ap, ◌∙◌, subst}
-use Rattle.std.specs.Prelude.{if◌then◌else◌, nat_lt}
+use Rattle.std.proofs.Common.{◌≡◌, ℕ, [], ◌∷◌, Bool, true, false, cond, Option, Some, None, refl, sym, ap, ◌∙◌, subst}
 use Rattle.std.specs.Ordering.{nat_cmp}
 use Rattle.std.specs.BTreeMap.{is_at}
-use Rattle.scfs_base.specs.Limits.{handles_limit}
-use Rattle.scfs_schedule.specs.declared.types.Call.{Call}
-use Rattle.scfs_schedule.specs.declared.types.Call.TheVariants as calls
-use Rattle.scfs_schedule.specs.declared.types.Line.TheVariants as lines
 use Rattle.scfs_schedule.specs.declared.types.Refusal.{Refusal}
 use Rattle.scfs_schedule.specs.declared.types.Refusal.TheVariants as refusals
 use Rattle.scfs_session.specs.declared.sessions.Session.{Session}
-use Rattle.scfs_session.specs.Open.{OpenSessions, session_of, ended, change_answer, sessions_after}
+use Rattle.scfs_session.specs.Open.{OpenSessions, session_of, ended}
 use Rattle.scfs_model.specs.Layers.{Row}
-use Rattle.scfs_model.specs.Lives.{Life, is_ready}
-use Rattle.scfs_model.specs.Sayings.{Saying}
-use Rattle.scfs_model.specs.Format.{Setup}
-use Rattle.scfs_model.specs.SessionSteps.{Open_read, Open_write}
-use Rattle.scfs_model.specs.Agents.{Agent, Waiting, Reaction, saying}
-use Rattle.scfs_model.specs.Calls.{call_of, called, refuse, unless_refused, any_names, path_names, makes, looks, opens, with_room, with_session, close}
+use Rattle.scfs_model.specs.Agents.{Reaction}
+use Rattle.scfs_model.specs.Calls.{refuse, close}
 use Rattle.scfs_agent.specs.State.{AgentState, setup}
-use Rattle.scfs_agent.specs.Outputs.{outputs_of}
 use Rattle.scfs_agent.specs.Settled.{settled, HasBegun}
-use Rattle.scfs_agent.specs.Keeping.{IsIdle}
-use Rattle.scfs_agent.specs.declared.types.Output.TheVariants as outputs
 use Rattle.scfs_agent.proofs.SettledLemmas.{settled_same}
 
 -- no session of the number is taken away
-remove_by : (b : Bool) (e : ℕ × Session) (es rest : OpenSessions) (found : Option Session) → cond b (Some e.1) found ≡ None → (found ≡ None → rest ≡ es)
+remove_by : (b : Bool) (e : ℕ × Session) (es rest : OpenSessions) (found : Option Session) → cond b (Some e.1) found ≡ None
+    → (found ≡ None → rest ≡ es)
     → cond b es (e ∷ rest) ≡ e ∷ es
 remove_by true e es rest found none h = cc
 remove_by false e es rest found none h = ap (λ (xs : OpenSessions). e ∷ xs) (h none)
@@ -51,7 +40,8 @@ abbrev pub with_sessions : AgentState → OpenSessions → AgentState
 with_sessions w sessions = record w { agent = record w.agent { sessions = sessions } }
 
 -- the close of a session, said of the agent before
-module _ (old v : AgentState) (view_is : v ≡ old) (h : ℕ) (none : old.agent.closed ≡ []) (rest : OpenSessions) (left : rest ≡ ended v.agent.sessions h) where
+module _ (old v : AgentState) (view_is : v ≡ old) (h : ℕ) (none : old.agent.closed ≡ []) (rest : OpenSessions) (left : rest
+    ≡ ended v.agent.sessions h) where
   abbrev closing : Reaction Row
   closing = closes old h none (session_of old.agent.sessions h)
 

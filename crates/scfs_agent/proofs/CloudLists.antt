@@ -67,7 +67,8 @@ new_tallies_more n = ap (map (λ (c : ℕ). record_of c)) (below_more n) ∙ map
 pub first_few : (inputs : ℕ) (clouds : List ℕ) → All (λ (x : RankFacts). (x.good ≤ inputs) × (x.bad ≤ inputs)) (map (λ (c : ℕ). record_of c) clouds)
 first_few inputs [] = All-nil (λ (x : RankFacts). (x.good ≤ inputs) × (x.bad ≤ inputs))
 first_few inputs (c ∷ cs) =
-    All-cons (λ (x : RankFacts). (x.good ≤ inputs) × (x.bad ≤ inputs)) (record_of c) (map (λ (d : ℕ). record_of d) cs) (omega arith, omega arith) (first_few inputs cs)
+    All-cons (λ (x : RankFacts). (x.good ≤ inputs) × (x.bad ≤ inputs)) (record_of c) (map (λ (d : ℕ). record_of d) cs) (omega arith, omega arith)
+    (first_few inputs cs)
 
 pub first_clouds : (clouds : List ℕ) → map (λ (x : RankFacts). x.cloud) (map (λ (c : ℕ). record_of c) clouds) ≡ clouds
 first_clouds [] = refl

@@ -1,6 +1,6 @@
 -- What holds of every agent goes on to hold.
 use Rattle.std.proofs.Common.{◌≡◌, ℕ, ◌+◌, ◌*◌, ◌<◌, ◌≤◌, List, [], ◌∷◌, ◌++◌, length, length-append, map, Bool, true, false, not, cond, Option, Some, None, refl, sym, ap, ◌∙◌, subst, inl, inr, arith}
-use Rattle.std.specs.Prelude.{◌==◌, nat_lt, filter, IfSome, if◌then◌else◌, is_some, remove}
+use Rattle.std.specs.Prelude.{◌==◌, nat_lt, filter, IfSome, if◌then◌else◌, remove}
 use Rattle.std.specs.List.{All}
 use Rattle.std.specs.Map.{set_value}
 use Rattle.std.specs.Ordering.{nat_cmp, match_ordering}
@@ -27,9 +27,8 @@ use Rattle.scfs_model.specs.Lists.{below}
 use Rattle.scfs_model.specs.UnitFormat.{under}
 use Rattle.scfs_model.specs.Agents.{Closed, no_tallies}
 use Rattle.scfs_agent.specs.Asking.{MayUpload}
-use Rattle.scfs_agent.specs.Settled.{OneBegun}
 use Rattle.scfs_agent.specs.Views.{step_of, request_of, waiting_of, closed_in}
-use Rattle.scfs_agent.specs.Keeping.{HaveBases, AreLeases, AreTallies, HaveRoom, MayTurn, IsKept, IsWork, FitsAsking, calls_in, calls_of, is_call}
+use Rattle.scfs_agent.specs.Keeping.{HaveBases, AreLeases, AreTallies, HaveRoom, IsKept, IsWork, FitsAsking, calls_in, calls_of, is_call}
 use Rattle.scfs_agent.specs.declared.work.Pending.{Pending}
 use Rattle.scfs_agent.specs.declared.work.Work.{Work}
 use Rattle.scfs_agent.specs.declared.work.Work.TheVariants as works
@@ -68,7 +67,8 @@ set_bases test [] y are base = are
 set_bases test (e ∷ es) y are base =
     set_by (test e.0) y e es (set_value test es y) are base (set_bases test es y (All-tail Based e es are) base)
 
-changed_by : (sessions : OpenSessions) (h end : ℕ) (change : List ℕ → List ℕ) (o : Option Session) → HaveBases sessions → IfSome o (λ y. y.base ≤ 1000000)
+changed_by : (sessions : OpenSessions) (h end : ℕ) (change : List ℕ → List ℕ) (o : Option Session) → HaveBases sessions
+    → IfSome o (λ y. y.base ≤ 1000000)
     → HaveBases (sessions_after sessions h (changed o end change))
 changed_by sessions h end change None are base = are
 changed_by sessions h end change (Some y) are base = by (change_refusal y end) where
@@ -84,7 +84,8 @@ changed_bases sessions h end change are =
 -- the version of a session
 pub left_base : (sessions : OpenSessions) (h : ℕ) (y : Session) → HaveBases sessions → session_of sessions h ≡ Some y → y.base ≤ 1000000
 left_base sessions h y are is =
-    subst (λ (o : Option Session). IfSome o (λ y. y.base ≤ 1000000)) is (All-lookup (λ (y : Session). y.base ≤ 1000000) (is_at (nat_cmp h)) sessions are)
+    subst (λ (o : Option Session). IfSome o (λ y. y.base ≤ 1000000)) is
+    (All-lookup (λ (y : Session). y.base ≤ 1000000) (is_at (nat_cmp h)) sessions are)
 
 -- the cloud of facts stays, and they count one answer more at most
 one_more_cloud : (c : ℕ) (good : Bool) (x : RankFacts) → (one_more c good x).cloud ≡ x.cloud
@@ -171,22 +172,29 @@ pub renewal_are : (most h : ℕ) (leases : List Lease) → AreLeases most leases
 renewal_are most h = changed_are most (renewal_asked h) (λ l. by_session h (record l { asked = true }) l refl)
 
 -- an agent with no sessions, and no clouds counted
-pub kept_none : (header : Header) (no incarnation inputs requests opens files uploads : ℕ) (work : Work) (sessions : OpenSessions) (leases : List Lease) (tallies : List RankFacts)
-    (pending : List Pending) → IsHeader header → no < length header.agents → inputs ≤ 1000000 → incarnation ≤ inputs → requests ≤ 2000000 * inputs → opens ≤ inputs
-    → files ≤ inputs → uploads ≤ inputs → IsWork no incarnation header.f inputs work → sessions ≡ [] → leases ≡ [] → tallies ≡ no_tallies (under header) → pending ≡ []
+pub kept_none : (header : Header) (no incarnation inputs requests opens files uploads : ℕ) (work : Work) (sessions : OpenSessions)
+    (leases : List Lease) (tallies : List RankFacts)
+    (pending : List Pending) → IsHeader header → no < length header.agents → inputs ≤ 1000000 → incarnation ≤ inputs → requests ≤ 2000000 * inputs
+    → opens ≤ inputs
+    → files ≤ inputs → uploads ≤ inputs → IsWork no incarnation header.f inputs work → sessions ≡ [] → leases ≡ [] → tallies
+    ≡ no_tallies (under header) → pending ≡ []
     → IsKept header no incarnation inputs requests opens files uploads work sessions leases tallies pending
-kept_none header a incarnation inputs requests opens files uploads work sessions leases tallies pending is member counted started drawn opened made begun working s l t p =
+kept_none header a incarnation inputs requests opens files uploads work sessions leases tallies pending is member counted started drawn opened made
+    begun working s l t p =
     let clouds = below (3 * header.f + 1) in
     let bases : HaveBases sessions = subst HaveBases (sym s) (All-nil Based) in
     let leased : AreLeases inputs leases = subst (AreLeases inputs) (sym l) (record { few = omega arith; numbered = All-nil Numbered }) in
     let tallied : AreTallies header.f inputs tallies =
     subst (AreTallies header.f inputs) (sym t) (record { clouds = first_clouds clouds; few = first_few inputs clouds }) in
-    let fitting : All (λ (x : Pending). FitsAsking x.asking) pending = subst (All (λ (x : Pending). FitsAsking x.asking)) (sym p) (All-nil (λ (x : Pending). FitsAsking x.asking)) in
-    let waits : calls_in (map request_of pending) ≤ calls_of (waiting_of work) = omega (arith, ap (λ (xs : List Pending). calls_in (map request_of xs)) p) in
+    let fitting : All (λ (x : Pending). FitsAsking x.asking) pending =
+    subst (All (λ (x : Pending). FitsAsking x.asking)) (sym p) (All-nil (λ (x : Pending). FitsAsking x.asking)) in
+    let waits : calls_in (map request_of pending) ≤ calls_of (waiting_of work) =
+    omega (arith, ap (λ (xs : List Pending). calls_in (map request_of xs)) p) in
     assumption (is, member, counted, started, drawn, opened, made, begun, working, bases, leased, tallied, fitting, waits)
 
 -- an agent with other work, sessions, leases, tallies or steps that were asked
-module _ {header : Header} {no incarnation inputs requests opens files uploads : ℕ} {work : Work} {sessions : OpenSessions} {leases : List Lease} {tallies : List RankFacts}
+module _ {header : Header} {no incarnation inputs requests opens files uploads : ℕ} {work : Work} {sessions : OpenSessions} {leases : List Lease}
+    {tallies : List RankFacts}
     {pending : List Pending} (kept : IsKept header no incarnation inputs requests opens files uploads work sessions leases tallies pending) where
   pub kept_idle : (others : OpenSessions) → HaveBases others → calls_in (map request_of pending) ≡ 0
       → IsKept header no incarnation inputs requests opens files uploads works.Idle others leases tallies pending
@@ -207,7 +215,8 @@ module _ {header : Header} {no incarnation inputs requests opens files uploads :
   kept_tallies others are = assumption (kept, are)
 
   -- with further requests, for this work
-  pub kept_work : (drawn : ℕ) (other : Work) → drawn ≤ 2000000 * inputs → IsWork no incarnation header.f inputs other → calls_in (map request_of pending) ≡ 0
+  pub kept_work : (drawn : ℕ) (other : Work) → drawn ≤ 2000000 * inputs → IsWork no incarnation header.f inputs other
+      → calls_in (map request_of pending) ≡ 0
       → IsKept header no incarnation inputs drawn opens files uploads other sessions leases tallies pending
   kept_work drawn other few is none =
       let waits : calls_in (map request_of pending) ≤ calls_of (waiting_of other) = omega (arith, none) in

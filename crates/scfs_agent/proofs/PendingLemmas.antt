@@ -8,9 +8,9 @@ use Rattle.scfs_base.specs.declared.naming.RequestNo.{RequestNo}
 use Rattle.scfs_model.specs.Lists.{without_first}
 use Rattle.scfs_model.specs.Layers.{Row, rows}
 use Rattle.scfs_model.specs.Given.{Given}
-use Rattle.scfs_model.specs.Steps.{Step, Outcome}
+use Rattle.scfs_model.specs.Steps.{Outcome}
 use Rattle.scfs_model.specs.Agents.{Request, silent}
-use Rattle.scfs_model.specs.Told.{tells, told, untold, is_pending}
+use Rattle.scfs_model.specs.Told.{tells, told, untold}
 use Rattle.scfs_agent.specs.State.{AgentState, setup}
 use Rattle.scfs_agent.specs.Views.{request_of, step_of, waiting_of}
 use Rattle.scfs_agent.specs.Keeping.{is_call, calls_in, calls_of}
@@ -54,7 +54,8 @@ module _ (request : RequestNo) where
   abbrev test : Request Row → Bool
   test = is_numbered request
 
-  any_by : (b : Bool) (x : Request Row) (any : Bool) (found : Option (Request Row)) → any ≡ is_some found → (b || any) ≡ is_some (cond b (Some x) found)
+  any_by : (b : Bool) (x : Request Row) (any : Bool) (found : Option (Request Row)) → any ≡ is_some found → (b || any)
+      ≡ is_some (cond b (Some x) found)
   any_by true x any found e = refl
   any_by false x any found e = e
 
@@ -129,75 +130,78 @@ step_by_call works.Step n l = (refl, omega (arith, l))
 step_by_call (works.Fetch fetch) n l = absurd (omega (arith, l))
 step_by_call (works.Upload upload) n l = absurd (omega (arith, l))
 
--- what was asked under a number is taken from its place, to be told
-module _ (request : RequestNo) (pending slice : List Pending) (at : ℕ) (x : Pending) (rest : List Pending) (same : slice ≡ pending)
-    (place : at ≡ first_place (is_numbered request) (map request_of slice)) (is : slice_get pending at ≡ Some x) (left : rest ≡ remove pending at) where
-  it : Taken request pending at x
-  it = taken request pending at x (ap (λ (xs : List Pending). first_place (is_numbered request) (map request_of xs)) (sym same) ∙ sym place) is
+-- what is pending, by its place
+module _ (request : RequestNo) (pending slice : List Pending) (at : ℕ) (same : slice ≡ pending) (place : at
+    ≡ first_place (is_numbered request) (map request_of slice)) where
+  place_is : first_place (is_numbered request) (map request_of pending) ≡ at
+  place_is = ap (λ (xs : List Pending). first_place (is_numbered request) (map request_of xs)) (sym same) ∙ sym place
 
-  rest_is : map request_of rest ≡ without_first (is_numbered request) (map request_of pending)
-  rest_is = ap (λ (xs : List Pending). map request_of xs) left ∙ it.left
-
-  module _ (w : Work) (few : calls_in (map request_of pending) ≤ calls_of (waiting_of w)) where
-    calls_told : calls_in (map request_of rest) + cond (is_call (step_of x.asking)) 1 0 ≡ calls_in (map request_of pending)
-    calls_told =
-        ap (λ (xs : List (Request Row)). calls_in xs + cond (is_call (step_of x.asking)) 1 0) rest_is
-        ∙ calls_left request (map request_of pending) (request_of x) it.found
-
-    pub fewer_calls : calls_in (map request_of rest) ≤ calls_of (waiting_of w)
-    fewer_calls = omega (arith, calls_told, few)
-
-    -- once the step of a call is told, no other call waits
-    pub step_then : is_call (step_of x.asking) ≡ true → (w ≡ works.Step) × (calls_in (map request_of rest) ≡ 0)
-    step_then call =
-        let one : calls_in (map request_of rest) + 1 ≡ calls_in (map request_of pending) =
-        ap (λ (b : Bool). calls_in (map request_of rest) + cond b 1 0) (sym call) ∙ calls_told in
-        step_by_call w (calls_in (map request_of rest)) (omega (arith, one, few))
-
-  -- said of the agent before
   module _ (old v : AgentState) (view_is : v ≡ old) (here : v.agent.pending ≡ map request_of pending) where
-    asked_before : pending_step old.agent.pending request ≡ Some (request_of x)
-    asked_before =
-        ap (λ (a : AgentState). pending_step a.agent.pending request) (sym view_is) ∙ ap (λ (ps : List (Request Row)). pending_step ps request) here ∙ it.found
+    before : pending_step old.agent.pending request ≡ pending_step (map request_of pending) request
+    before = ap (λ (a : AgentState). pending_step a.agent.pending request) (sym view_is)
+        ∙ ap (λ (ps : List (Request Row)). pending_step ps request) here
 
-    pub found_there : (P : Option (Request Row) → Type 0) → P (pending_step old.agent.pending request) → P (Some (request_of x))
-    found_there P h = subst P asked_before h
+    pub none_there : at ≡ length pending → pending_step old.agent.pending request ≡ None
+    none_there behind = before ∙ none_pending request (map request_of pending) (place_is ∙ behind ∙ sym (length-map pending request_of))
 
-    abbrev view : AgentState
-    view = record v { agent = record v.agent { pending = map request_of rest } }
+    pub asked_there : (x : Pending) → slice_get pending at ≡ Some x → pending_step old.agent.pending request ≡ Some (request_of x)
+    asked_there x is = before ∙ (taken request pending at x place_is is).found
 
-    left_before : view ≡ record old { agent = untold old.agent request }
-    left_before =
-        ap (λ (ps : List (Request Row)). record v { agent = record v.agent { pending = ps } })
-        (rest_is ∙ ap (λ (ps : List (Request Row)). without_first (is_numbered request) ps) (sym here))
-        ∙ ap (λ (a : AgentState). record a { agent = untold a.agent request }) view_is
+    -- where none was asked under the number, nothing is told
+    pub untold_did : (given : Given) (o : Outcome Row) → at ≡ length pending
+        → did old (silent old.agent) ≡ did old (tells (setup old) rows old.no old.agent given request o)
+    untold_did given o behind =
+        ap (λ (b : Bool). did old (if b then told (setup old) rows old.no (untold old.agent request) given request o else silent old.agent))
+        (sym (any_found request old.agent.pending ∙ ap (λ (p : Option (Request Row)). is_some p) (none_there behind)))
 
-    told_did : (given : Given) (o : Outcome Row)
-        → did view (told (setup view) rows view.no view.agent given request o) ≡ did old (tells (setup old) rows old.no old.agent given request o)
-    told_did given o =
-        ap (λ (a : AgentState). did a (told (setup a) rows a.no a.agent given request o)) left_before
-        ∙ ap (λ (b : Bool). did old (if b then told (setup old) rows old.no (untold old.agent request) given request o else silent old.agent))
-        (sym (any_found request old.agent.pending ∙ ap (λ (p : Option (Request Row)). is_some p) asked_before))
+  -- it is taken from its place, to be told
+  module _ (x : Pending) (is : slice_get pending at ≡ Some x) (rest : List Pending) (left : rest ≡ remove pending at) where
+    rest_is : map request_of rest ≡ without_first (is_numbered request) (map request_of pending)
+    rest_is = ap (λ (xs : List Pending). map request_of xs) left ∙ (taken request pending at x place_is is).left
 
-    module _ (given : Given) (reply : Reply) (P : List Output × AgentState → Type 0)
-        (told : (o : Outcome Row) → outcome_step o ≡ step_of x.asking → IsReplyTo view.header.lease request o reply → FitsOutcome o
-            → P (did view (told (setup view) rows view.no view.agent given request o))) where
-      pub told_then : (o : Outcome Row) → IsTold old.header.lease old.agent.pending request reply o → P (did old (tells (setup old) rows old.no old.agent given request o))
-      told_then o is =
+    module _ (w : Work) (few : calls_in (map request_of pending) ≤ calls_of (waiting_of w)) where
+      calls_told : calls_in (map request_of rest) + cond (is_call (step_of x.asking)) 1 0 ≡ calls_in (map request_of pending)
+      calls_told =
+          ap (λ (xs : List (Request Row)). calls_in xs + cond (is_call (step_of x.asking)) 1 0) rest_is
+          ∙ calls_left request (map request_of pending) (request_of x) (taken request pending at x place_is is).found
+
+      pub fewer_calls : calls_in (map request_of rest) ≤ calls_of (waiting_of w)
+      fewer_calls = omega (arith, calls_told, few)
+
+      -- once the step of a call is told, no other call waits
+      pub step_then : is_call (step_of x.asking) ≡ true → (w ≡ works.Step) × (calls_in (map request_of rest) ≡ 0)
+      step_then call =
+          let one : calls_in (map request_of rest) + 1 ≡ calls_in (map request_of pending) =
+          ap (λ (b : Bool). calls_in (map request_of rest) + cond b 1 0) (sym call) ∙ calls_told in
+          step_by_call w (calls_in (map request_of rest)) (omega (arith, one, few))
+
+    -- said of the agent before
+    module _ (old v : AgentState) (view_is : v ≡ old) (here : v.agent.pending ≡ map request_of pending) where
+      pub found_there : (P : Option (Request Row) → Type 0) → P (pending_step old.agent.pending request) → P (Some (request_of x))
+      found_there P h = subst P (asked_there old v view_is here x is) h
+
+      abbrev view : AgentState
+      view = record v { agent = record v.agent { pending = map request_of rest } }
+
+      left_before : view ≡ record old { agent = untold old.agent request }
+      left_before =
+          ap (λ (ps : List (Request Row)). record v { agent = record v.agent { pending = ps } })
+          (rest_is ∙ ap (λ (ps : List (Request Row)). without_first (is_numbered request) ps) (sym here))
+          ∙ ap (λ (a : AgentState). record a { agent = untold a.agent request }) view_is
+
+      told_did : (given : Given) (o : Outcome Row)
+          → did view (told (setup view) rows view.no view.agent given request o) ≡ did old (tells (setup old) rows old.no old.agent given request o)
+      told_did given o =
+          ap (λ (a : AgentState). did a (told (setup a) rows a.no a.agent given request o)) left_before
+          ∙ ap (λ (b : Bool). did old (if b then told (setup old) rows old.no (untold old.agent request) given request o else silent old.agent))
+          (sym (any_found request old.agent.pending ∙ ap (λ (p : Option (Request Row)). is_some p) (asked_there old v view_is here x is)))
+
+      pub told_then : (given : Given) (reply : Reply) (P : List Output × AgentState → Type 0)
+          → ((o : Outcome Row) → outcome_step o ≡ step_of x.asking → IsReplyTo view.header.lease request o reply → FitsOutcome o
+          → P (did view (told (setup view) rows view.no view.agent given request o)))
+          → (o : Outcome Row) → IsTold old.header.lease old.agent.pending request reply o
+          → P (did old (tells (setup old) rows old.no old.agent given request o))
+      told_then given reply P each o is =
           subst P (told_did given o)
-          (told o (sym (found_there (λ p. IsIts p (outcome_step o)) is.asked))
+          (each o (sym (found_there (λ p. IsIts p (outcome_step o)) is.asked))
           (subst (λ (a : AgentState). IsReplyTo a.header.lease request o reply) (sym view_is) is.replied) is.fits)
-
--- where none was asked under the number, nothing is told
-module _ (request : RequestNo) (pending slice : List Pending) (at : ℕ) (same : slice ≡ pending) (place : at ≡ first_place (is_numbered request) (map request_of slice))
-    (behind : at ≡ length pending) (old v : AgentState) (view_is : v ≡ old) (here : v.agent.pending ≡ map request_of pending) where
-  none_there : pending_step old.agent.pending request ≡ None
-  none_there =
-      ap (λ (a : AgentState). pending_step a.agent.pending request) (sym view_is) ∙ ap (λ (ps : List (Request Row)). pending_step ps request) here
-      ∙ none_pending request (map request_of pending)
-      (ap (λ (xs : List Pending). first_place (is_numbered request) (map request_of xs)) (sym same) ∙ sym place ∙ behind ∙ sym (length-map pending request_of))
-
-  pub untold_did : (given : Given) (o : Outcome Row) → did old (silent old.agent) ≡ did old (tells (setup old) rows old.no old.agent given request o)
-  untold_did given o =
-      ap (λ (b : Bool). did old (if b then told (setup old) rows old.no (untold old.agent request) given request o else silent old.agent))
-      (sym (any_found request old.agent.pending ∙ ap (λ (p : Option (Request Row)). is_some p) none_there))

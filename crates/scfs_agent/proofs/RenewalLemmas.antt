@@ -1,6 +1,6 @@
 -- Renewing the first lock that is due, and then those of higher sessions, renews all that are due.
-use Rattle.std.proofs.Common.{◌≡◌, ◌∙◌, ℕ, ◌+◌, ◌<◌, ◌≤◌, Bool, true, false, cond, not, ltb, List, [], ◌∷◌, ◌++◌, length, Option, Some, None, refl, sym, ap, subst, inl, inr, arith, append_assoc}
-use Rattle.std.specs.Prelude.{filter, find, option_map, nat_lt, ◌&&◌, ◌*◌}
+use Rattle.std.proofs.Common.{◌≡◌, ◌∙◌, ℕ, ◌+◌, ◌<◌, ◌≤◌, Bool, true, false, cond, not, List, [], ◌∷◌, ◌++◌, length, Option, Some, None, refl, sym, ap, subst, inl, inr, arith, append_assoc}
+use Rattle.std.specs.Prelude.{filter, find, option_map, ◌&&◌}
 use Rattle.std.specs.List.{All, AllByRecursion}
 use Rattle.std.proofs.lemmas.Bool.{lt-ltb, le-ltb, cases_lt}
 use Rattle.std.proofs.lemmas.Bool.Decides.{eqb_tells}
@@ -62,7 +62,8 @@ module _ (now lease : ℕ) where
       → (first_due now lease after rest ≡ Some session → IsFirst after session rest) → IsFirst after session (l ∷ rest)
   first_by true after session l rest passes rising is later =
       let same : l.session ≡ session = cc in
-      let above : AllByRecursion (λ (m : Lease). session < m.session) rest = subst (λ (n : ℕ). AllByRecursion (λ (m : Lease). n < m.session) rest) same rising.0 in
+      let above : AllByRecursion (λ (m : Lease). session < m.session) rest =
+      subst (λ (n : ℕ). AllByRecursion (λ (m : Lease). n < m.session) rest) same rising.0 in
       let less : after < l.session = elim (cases_lt after l.session) [
         | inl less ↦ less
         | inr more ↦ let fails : false ≡ true = rw (le-ltb after l.session more) at passes in cc
@@ -82,9 +83,11 @@ module _ (now lease : ℕ) where
         due = rw (passes, le-ltb session l.session (omega (arith, above))) next.due;
       }
 
-  pub first_is : (after session : ℕ) (leases : List Lease) → IsRising leases → first_due now lease after leases ≡ Some session → IsFirst after session leases
+  pub first_is : (after session : ℕ) (leases : List Lease) → IsRising leases → first_due now lease after leases ≡ Some session
+      → IsFirst after session leases
   first_is after session [] rising is = cc
-  first_is after session (l ∷ rest) rising is = first_by (is_due_after now lease after l) after session l rest refl rising is (first_is after session rest rising.1)
+  first_is after session (l ∷ rest) rising is =
+      first_by (is_due_after now lease after l) after session l rest refl rising is (first_is after session rest rising.1)
 
   none_due : (after : ℕ) (leases : List Lease) → first_due now lease after leases ≡ None → due after leases ≡ []
   none_due after [] is = refl
@@ -119,7 +122,8 @@ module _ (a lease now : ℕ) where
     drawn : r.agent.requests ≤ agent.requests + 1
     others : due now lease session r.agent.leases ≡ due now lease session agent.leases
 
-  is_asked : (agent : Agent Row) (session : ℕ) (file : Option FileId) → IsAsked agent session (if_some file (silent agent) (renews rows a agent session))
+  is_asked : (agent : Agent Row) (session : ℕ) (file : Option FileId)
+      → IsAsked agent session (if_some file (silent agent) (renews rows a agent session))
   is_asked agent session None = record { says = refl; sent = refl; closed = refl; drawn = omega arith; others = refl }
   is_asked agent session (Some file) =
       record { says = refl; sent = refl; closed = refl; drawn = omega arith; others = others_due now lease session agent.leases }
@@ -137,8 +141,10 @@ module _ (a lease now : ℕ) where
         ∙ ap (λ (h : ℕ). followed (one agent h) (λ next. renews_all rows a next (due now lease session agent.leases))) first.is
         ∙ ap (λ (xs : List Lease). followed (one agent session) (λ next. renews_all rows a next xs)) (sym asked.others)
 
-    pub one_gives : outputs_by a lease (left agent after) ≡ outputs_by a lease (one agent session) ++ outputs_by a lease (left (one agent session).agent session)
-    one_gives = ap (outputs_by a lease) split ∙ outputs_followed a lease (one agent session) (left (one agent session).agent session) asked.says asked.sent
+    pub one_gives : outputs_by a lease (left agent after)
+        ≡ outputs_by a lease (one agent session) ++ outputs_by a lease (left (one agent session).agent session)
+    one_gives = ap (outputs_by a lease) split
+        ∙ outputs_followed a lease (one agent session) (left (one agent session).agent session) asked.says asked.sent
 
     pub one_leaves : (left agent after).agent ≡ (left (one agent session).agent session).agent
     one_leaves = ap (λ (r : Reaction Row). r.agent) split
@@ -193,7 +199,10 @@ module _ (old view : AgentState) (now after : ℕ) (given : List Output) (is : I
     fewer : length (due now old.header.lease session renewed.agent.leases) + 1 ≡ length (due now old.header.lease after view.agent.leases)
     fewer = one_fewer old.no old.header.lease now view.agent after session first
 
-    module _ (next : AgentState) (asked all : List Output) (later : next ≡ record view { agent = (one view.no view.header.lease now view.agent session).agent })
+    module _ (next : AgentState) (asked all : List Output) (later : next ≡ record view {
+      agent =
+          (one view.no view.header.lease now view.agent session).agent;
+    })
         (gives : asked ≡ outputs_by view.no view.header.lease (one view.no view.header.lease now view.agent session)) (joined : all ≡ given ++ asked)
         (asks : All (FitsOutput view.header.f) asked) where
       abbrev by : AgentState → Reaction Row
@@ -218,7 +227,8 @@ module _ (old view : AgentState) (now after : ℕ) (given : List Output) (is : I
             drawn = omega (arith, fewer, is.drawn, one_drawn old.no old.header.lease now view.agent after session first);
             asks =
                 subst (All (FitsOutput old.header.f)) (sym joined)
-                (All-append (FitsOutput old.header.f) given asked is.asks (subst (λ (a : AgentState). All (FitsOutput a.header.f) asked) is.same asks));
+                (All-append (FitsOutput old.header.f) given asked is.asks
+                (subst (λ (a : AgentState). All (FitsOutput a.header.f) asked) is.same asks));
           }
 
       pub renewing_more : IsRenewing old next now session all
@@ -226,8 +236,13 @@ module _ (old view : AgentState) (now after : ℕ) (given : List Output) (is : I
 
       pub renewing_fewer : length (due now next.header.lease session next.agent.leases) < length (due now view.header.lease after view.agent.leases)
       renewing_fewer =
-          omega (arith, fewer, ap (λ (a : AgentState). length (due now a.header.lease session a.agent.leases)) next_is,
-          ap (λ (l : ℕ). length (due now l session renewed.agent.leases)) lease_is, ap (λ (l : ℕ). length (due now l after view.agent.leases)) lease_is)
+          omega (
+            arith,
+            fewer,
+            ap (λ (a : AgentState). length (due now a.header.lease session a.agent.leases)) next_is,
+            ap (λ (l : ℕ). length (due now l session renewed.agent.leases)) lease_is,
+            ap (λ (l : ℕ). length (due now l after view.agent.leases)) lease_is,
+          )
 
   module _ (found : first_due now view.header.lease after view.agent.leases ≡ None) where
     none : due now old.header.lease after view.agent.leases ≡ []
@@ -235,9 +250,11 @@ module _ (old view : AgentState) (now after : ℕ) (given : List Output) (is : I
 
     pub renewed_gives : given ≡ outputs_by old.no old.header.lease (renews_due rows old.no old.agent now old.header.lease)
     renewed_gives =
-        sym (append-nil given) ∙ ap (λ (xs : List Lease). given ++ outputs_by old.no old.header.lease (renews_all rows old.no view.agent xs)) (sym none)
+        sym (append-nil given)
+        ∙ ap (λ (xs : List Lease). given ++ outputs_by old.no old.header.lease (renews_all rows old.no view.agent xs)) (sym none)
         ∙ is.gives
 
     pub renewed_after : view ≡ record old { agent = (renews_due rows old.no old.agent now old.header.lease).agent }
     renewed_after =
-        is.same ∙ ap (λ (g : Agent Row). record old { agent = g }) (ap (λ (xs : List Lease). (renews_all rows old.no view.agent xs).agent) (sym none) ∙ is.leaves)
+        is.same ∙ ap (λ (g : Agent Row). record old { agent = g }) (ap (λ (xs : List Lease). (renews_all rows old.no view.agent xs).agent) (sym none)
+        ∙ is.leaves)

@@ -53,7 +53,8 @@ not_both (results.Refused index found) done refused = done
 refused_is : (step : tuples.Step) (why : Refusal) (result : StepResult) → IsRefusal step why result → IsRefused result
 refused_is step why result h = subst IsRefused (sym h.2) tt
 
-pub did_is : (result : StepResult) (bound : List Field) (taken : ℕ) (shown : List (List Tuple)) → result ≡ results.Did bound taken shown → IsDone result
+pub did_is : (result : StepResult) (bound : List Field) (taken : ℕ) (shown : List (List Tuple)) → result ≡ results.Did bound taken shown
+    → IsDone result
 did_is result bound taken shown e = subst IsDone (sym e) tt
 
 pub sight_is : (reply : Reply) (seen : Sight) → ShowsSight reply seen → IsDone reply.result
@@ -81,7 +82,8 @@ look_bound a [] n (results.Did bound taken shown) h fits =
 look_bound a [] n (results.Refused index found) h fits = tt
 look_bound a (name ∷ names) n result h fits = subst (Bound a (name ∷ names) n) (sym h.1) (stat_read a h.0 n)
 
-pub look_done : (a : ℕ) (names : List (List ℕ)) (r : OrRefusal Name_outcome) (reply : Reply) (bound : List Field) (taken : ℕ) (shown : List (List Tuple))
+pub look_done : (a : ℕ) (names : List (List ℕ)) (r : OrRefusal Name_outcome) (reply : Reply) (bound : List Field) (taken : ℕ)
+    (shown : List (List Tuple))
     → IsNameReply (Look names) r reply → FitsNames (Look names) r → reply.result ≡ results.Did bound taken shown
     → stat_line a (is_root names) bound ≡ said_by a (name_answer r)
 look_done a names (Err why) reply bound taken shown h fits e =
@@ -94,7 +96,8 @@ meant_version : (o : Option Row) → option_map row_of (option_map row_said o) �
 meant_version None = refl
 meant_version (Some v) = refl
 
-sighted_same : (s : Setup) (a : ℕ) (agent : Agent Row) (given : Given) (h : ℕ) (writes : Bool) (x y : machine.Sight Row) (at : Found Row) → x.file ≡ y.file
+sighted_same : (s : Setup) (a : ℕ) (agent : Agent Row) (given : Given) (h : ℕ) (writes : Bool) (x y : machine.Sight Row) (at : Found Row) → x.file
+    ≡ y.file
     → x.number ≡ y.number → sighted s rows a agent given h writes x at ≡ sighted s rows a agent given h writes y at
 sighted_same s a agent given h writes x y As_empty file number =
     let P : FileId → ℕ → Reaction Row = λ f n. sighted s rows a agent given h writes (record x { file = f; number = n }) As_empty in
@@ -118,7 +121,8 @@ saw_same s a agent given request h writes sight =
     ∙ ap (λ (x : Found Row). after (sighted s rows a next given h writes meant x)) found_same
 
 -- an open whose step was done
-open_sees : (s : Setup) (a : ℕ) (agent : Agent Row) (given : Given) (request : RequestNo) (writes : Bool) (h : ℕ) (sight : machine.Sight Row) (reply : Reply)
+open_sees : (s : Setup) (a : ℕ) (agent : Agent Row) (given : Given) (request : RequestNo) (writes : Bool) (h : ℕ) (sight : machine.Sight Row)
+    (reply : Reply)
     → ShowsSight reply (sight_said sight)
     → saw s rows a agent given request h writes (sight_meant (sight_of reply.result)) ≡ saw s rows a agent given request h writes sight
 open_sees s a agent given request writes h sight reply is =
@@ -148,8 +152,10 @@ open_done s a lease agent given request false names h (Ok (Locks sight l)) reply
 open_done s a lease agent given request false names h (Ok (Completes of it n)) reply is done = absurd is
 
 -- the end of its lock fits
-pub lock_fits : (lease : ℕ) (request : RequestNo) (writes : Bool) (names : List (List ℕ)) (h : ℕ) (r : OrRefusal (Session_outcome Row)) (reply : Reply)
-    → IsSessionReply lease request (open_step writes names h) r reply → FitsSessions (open_step writes names h) r → IsDone reply.result → writes ≡ true
+pub lock_fits : (lease : ℕ) (request : RequestNo) (writes : Bool) (names : List (List ℕ)) (h : ℕ) (r : OrRefusal (Session_outcome Row))
+    (reply : Reply)
+    → IsSessionReply lease request (open_step writes names h) r reply → FitsSessions (open_step writes names h) r → IsDone reply.result → writes
+    ≡ true
     → reply.now + lease < 2 ^ 64
 lock_fits lease request false names h r reply is fits done w = cc
 lock_fits lease request true names h (Err why) reply is fits done w =
@@ -159,10 +165,12 @@ lock_fits lease request true names h (Ok (Locks sight l)) reply is fits done w =
 lock_fits lease request true names h (Ok (Completes of it n)) reply is fits done w = absurd is
 
 -- an open that saw its version
-pub open_did : (old v : AgentState) (given : Given) (request : RequestNo) (writes : Bool) (names : List (List ℕ)) (h : ℕ) (r : OrRefusal (Session_outcome Row)) (reply : Reply)
+pub open_did : (old v : AgentState) (given : Given) (request : RequestNo) (writes : Bool) (names : List (List ℕ)) (h : ℕ)
+    (r : OrRefusal (Session_outcome Row)) (reply : Reply)
     (seen : Sight) → IsSessionReply old.header.lease request (open_step writes names h) r reply → IsDone reply.result → seen ≡ sight_of reply.result
     → v ≡ record old { agent = with_lock writes old.agent h (reply.now + old.header.lease) }
-    → did v (saw (setup v) rows v.no v.agent given request h writes (sight_meant seen)) ≡ did old (told_open (setup old) rows old.no old.agent given request h r)
+    → did v (saw (setup v) rows v.no v.agent given request h writes (sight_meant seen))
+    ≡ did old (told_open (setup old) rows old.no old.agent given request h r)
 open_did old v given request writes names h r reply seen is done shows locked =
     ap (λ (x : Sight). did v (saw (setup v) rows v.no v.agent given request h writes (sight_meant x))) shows
     ∙ ap (λ (w : AgentState). did w (saw (setup w) rows w.no w.agent given request h writes (sight_meant (sight_of reply.result)))) locked
@@ -193,13 +201,15 @@ session_fits lease request (Open_write names h) (Ok (Completes of it n)) reply i
 session_fits lease request (Commit h v) (Ok outcome) reply is fits opens = absurd cc
 
 -- the numbers of a reply fit, whatever step it is told of
-pub told_fits : (lease : ℕ) (pending : List (Request Row)) (request : RequestNo) (reply : Reply) (o : Outcome Row) → IsTold lease pending request reply o
+pub told_fits : (lease : ℕ) (pending : List (Request Row)) (request : RequestNo) (reply : Reply) (o : Outcome Row)
+    → IsTold lease pending request reply o
     → FitsReply (pending_step pending request) reply
 told_fits lease pending request reply o is = by (pending_step pending request) is.asked where
   of : (o : Outcome Row) → IsReplyTo lease request o reply → FitsOutcome o → is_open (outcome_step o) ≡ true → FitsSeen (sight_of reply.result)
   of (Of_names x r) replied fits opens = absurd cc
   of (Of_locks x r) replied fits opens = absurd cc
   of (Of_sessions x r) replied fits opens = session_fits lease request x r reply replied fits opens
+
   by : (p : Option (Request Row)) → IsIts p (outcome_step o) → FitsReply p reply
   by None its = tt
   by (Some x) its = λ opens. of o is.replied is.fits (ap is_open (sym its) ∙ opens)

@@ -136,7 +136,8 @@ pub record AreLeases (most : ℕ) (leases : List Lease) : Type 0 where
 
 -- its numbers are in their ranges, and each input has it draw at most 2,000,000 requests and one incarnation, session, file, upload and
 -- lock; the step of its unanswered call is the only one for which a call waits
-pub record IsKept (header : Header) (no incarnation inputs requests opens files uploads : ℕ) (work : Work) (sessions : OpenSessions) (leases : List Lease) (tallies : List RankFacts) (pending : List Pending) : Type 0 where
+pub record IsKept (header : Header) (no incarnation inputs requests opens files uploads : ℕ) (work : Work) (sessions : OpenSessions)
+    (leases : List Lease) (tallies : List RankFacts) (pending : List Pending) : Type 0 where
   pub is_header : IsHeader header
   pub member : no < length header.agents
   pub counted : inputs ≤ 1000000

@@ -59,7 +59,10 @@ abbrev pub stat_line : (a : ℕ) → (of_root : Bool) → List Field → Line
 stat_line a of_root bound =
     if of_root then lines.OkStat a kinds.Dir root_id 0 0 hows.Fresh
     else (let at = length bound - 4 in
-    lines.OkStat a (kind_of (number_at bound (at + 1))) (record { 0 = number_at bound at }) (number_at bound (at + 2)) (number_at bound (at + 3)) hows.Fresh)
+    lines.OkStat a (kind_of (number_at bound (at + 1))) (record {
+      0 =
+          number_at bound at;
+    }) (number_at bound (at + 2)) (number_at bound (at + 3)) hows.Fresh)
 
 -- a sight whose numbers fit
 pub record FitsSeen (seen : Sight) : Type 0 where

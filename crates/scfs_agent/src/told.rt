@@ -170,11 +170,13 @@ impl Agent {
         requires reply { FitsReply (pending_step self.old.agent.pending request) reply.now }
         requires ranks { reads_version (pending_step self.old.agent.pending request) reply.now.result ≡ true
             → length ranks.now ≡ 3 * self.old.header.f + 1 }
-        ensures gives { (o : Outcome Row) → IsTold self.old.header.lease self.old.agent.pending request reply.entry.now o → IfOk result (λ given. given ≡ outputs_of self.old
+        ensures gives { (o : Outcome Row) → IsTold self.old.header.lease self.old.agent.pending request reply.entry.now o
+            → IfOk result (λ given. given ≡ outputs_of self.old
             (tells (setup self.old) rows self.old.no self.old.agent (given_now now ranks.now) request o)) }
-        ensures after { (o : Outcome Row) → IsTold self.old.header.lease self.old.agent.pending request reply.entry.now o → OnOk result (self.new ≡ record self.old {
-          agent = (tells (setup self.old) rows self.old.no self.old.agent (given_now now ranks.now) request o).agent;
-        }) }
+        ensures after { (o : Outcome Row) → IsTold self.old.header.lease self.old.agent.pending request reply.entry.now o
+            → OnOk result (self.new ≡ record self.old {
+              agent = (tells (setup self.old) rows self.old.no self.old.agent (given_now now ranks.now) request o).agent;
+            }) }
         ensures keeps { OnOk result (Keeps self.old self.new) }
         ensures asks { IfOk result (λ given. All (FitsOutput self.old.header.f) given) }
     {
@@ -323,11 +325,13 @@ impl Agent {
         requires seen { FitsSeen (sight_of reply.now.result) }
         requires free { IsFree self.old }
         requires ranks { shows_version reply.now.result ≡ true → length ranks.now ≡ 3 * self.old.header.f + 1 }
-        ensures gives { (names : List (List ℕ)) (r : OrRefusal (Session_outcome Row)) → On_sessions (open_step writes names session) ≡ step_of asking.now
+        ensures gives { (names : List (List ℕ)) (r : OrRefusal (Session_outcome Row))
+            → On_sessions (open_step writes names session) ≡ step_of asking.now
             → IsSessionReply self.old.header.lease request (open_step writes names session) r reply.entry.now
             → FitsSessions (open_step writes names session) r → IfOk result (λ given. given ≡ outputs_of self.old
             (told_open (setup self.old) rows self.old.no self.old.agent (given_now now ranks.now) request session r)) }
-        ensures after { (names : List (List ℕ)) (r : OrRefusal (Session_outcome Row)) → On_sessions (open_step writes names session) ≡ step_of asking.now
+        ensures after { (names : List (List ℕ)) (r : OrRefusal (Session_outcome Row))
+            → On_sessions (open_step writes names session) ≡ step_of asking.now
             → IsSessionReply self.old.header.lease request (open_step writes names session) r reply.entry.now
             → FitsSessions (open_step writes names session) r → OnOk result (self.new ≡ record self.old {
               agent = (told_open (setup self.old) rows self.old.no self.old.agent (given_now now ranks.now) request session r).agent;
@@ -371,7 +375,8 @@ impl Agent {
         ensures gives { IfOk result (λ given. given ≡ outputs_of self.old
             (saw (setup self.old) rows self.old.no self.old.agent (given_now now ranks.now) request session writes (sight_meant seen.now))) }
         ensures after { OnOk result (self.new ≡ record self.old {
-          agent = (saw (setup self.old) rows self.old.no self.old.agent (given_now now ranks.now) request session writes (sight_meant seen.now)).agent;
+          agent = (saw (setup self.old) rows self.old.no self.old.agent (given_now now ranks.now)
+              request session writes (sight_meant seen.now)).agent;
         }) }
         ensures asks { IfOk result (λ given. All (FitsOutput self.old.header.f) given) }
     {
@@ -421,10 +426,12 @@ impl Agent {
     ) -> Result<Sequence<Output>, Memory>
         requires asking { FitsAsking asking.now }
         requires commit { asking.now ≡ Asking.Commit session row.now }
-        ensures gives { (r : OrRefusal (Session_outcome Row)) → IsSessionReply self.old.header.lease request (Commit session (row_of row.now)) r reply.entry.now
+        ensures gives { (r : OrRefusal (Session_outcome Row))
+            → IsSessionReply self.old.header.lease request (Commit session (row_of row.now)) r reply.entry.now
             → FitsSessions (Commit session (row_of row.now)) r → IfOk result (λ given. given ≡ outputs_of self.old
             (told_commit (setup self.old) rows self.old.no self.old.agent self.old.agent.closed r)) }
-        ensures after { (r : OrRefusal (Session_outcome Row)) → IsSessionReply self.old.header.lease request (Commit session (row_of row.now)) r reply.entry.now
+        ensures after { (r : OrRefusal (Session_outcome Row))
+            → IsSessionReply self.old.header.lease request (Commit session (row_of row.now)) r reply.entry.now
             → FitsSessions (Commit session (row_of row.now)) r → OnOk result (self.new ≡ record self.old {
               agent = (told_commit (setup self.old) rows self.old.no self.old.agent self.old.agent.closed r).agent;
             }) }
@@ -456,7 +463,8 @@ impl Agent {
     ) -> Result<Sequence<Output>, Memory>
         requires asking { FitsAsking asking.now }
         requires commit { asking.now ≡ Asking.Commit session row.now }
-        ensures gives { (r : OrRefusal (Session_outcome Row)) → IsSessionReply self.now.header.lease request (Commit session (row_of row.now)) r reply.entry.now
+        ensures gives { (r : OrRefusal (Session_outcome Row))
+            → IsSessionReply self.now.header.lease request (Commit session (row_of row.now)) r reply.entry.now
             → FitsSessions (Commit session (row_of row.now)) r → IfOk result (λ given. given ≡ outputs_of self.now
             (told_closed (setup self.now) rows self.now.no (record self.now.agent { waiting = Some For_close }) (closed_of upload.now) r)) }
         ensures asks { IfOk result (λ given. All (FitsOutput self.now.header.f) given) }

@@ -152,9 +152,11 @@ impl Agent {
         requires few { length clouds.now ≤ 10 }
         requires clouds { All (λ c. c < 3 * self.old.header.f + 1) clouds.now }
         ensures gives { IfOk result (λ given. given ≡ outputs_of self.old
-            (asks_puts (setup self.old) self.old.no (record self.old.agent { waiting = Some For_close }) (closed_of upload) (upload_of upload) clouds.now)) }
+            (asks_puts (setup self.old) self.old.no
+            (record self.old.agent { waiting = Some For_close }) (closed_of upload) (upload_of upload) clouds.now)) }
         ensures after { OnOk result (self.new ≡ record self.old {
-          agent = (asks_puts (setup self.old) self.old.no (record self.old.agent { waiting = Some For_close }) (closed_of upload) (upload_of upload) clouds.now).agent;
+          agent = (asks_puts (setup self.old) self.old.no
+              (record self.old.agent { waiting = Some For_close }) (closed_of upload) (upload_of upload) clouds.now).agent;
         }) }
         ensures asks { IfOk result (λ given. All (FitsOutput self.old.header.f) given) }
     {
@@ -179,9 +181,11 @@ impl Agent {
         requires upload { IsUpload self.old.no self.old.agent.incarnation self.old.header.f self.old.inputs upload }
         requires cloud { cloud < 3 * self.old.header.f + 1 }
         ensures gives { IfOk result (λ given. given ≡ outputs_of self.old
-            (upload_hears (setup self.old) self.old.no (record self.old.agent { waiting = Some For_close }) (closed_of upload) (upload_of upload) cloud request answer.now)) }
+            (upload_hears (setup self.old) self.old.no
+            (record self.old.agent { waiting = Some For_close }) (closed_of upload) (upload_of upload) cloud request answer.now)) }
         ensures after { OnOk result (self.new ≡ record self.old {
-          agent = (upload_hears (setup self.old) self.old.no (record self.old.agent { waiting = Some For_close }) (closed_of upload) (upload_of upload) cloud request answer.now).agent;
+          agent = (upload_hears (setup self.old) self.old.no
+              (record self.old.agent { waiting = Some For_close }) (closed_of upload) (upload_of upload) cloud request answer.now).agent;
         }) }
         ensures asks { IfOk result (λ given. All (FitsOutput self.old.header.f) given) }
     {
@@ -199,9 +203,11 @@ impl Agent {
         requires room { MayDraw self.old }
         requires upload { IsUpload self.old.no self.old.agent.incarnation self.old.header.f self.old.inputs upload }
         ensures gives { IfOk result (λ given. given ≡ outputs_of self.old
-            (stores (setup self.old) self.old.no (record self.old.agent { waiting = Some For_close }) (closed_of upload) (upload_of upload) (acked_next progress))) }
+            (stores (setup self.old) self.old.no
+            (record self.old.agent { waiting = Some For_close }) (closed_of upload) (upload_of upload) (acked_next progress))) }
         ensures after { OnOk result (self.new ≡ record self.old {
-          agent = (stores (setup self.old) self.old.no (record self.old.agent { waiting = Some For_close }) (closed_of upload) (upload_of upload) (acked_next progress)).agent;
+          agent = (stores (setup self.old) self.old.no
+              (record self.old.agent { waiting = Some For_close }) (closed_of upload) (upload_of upload) (acked_next progress)).agent;
         }) }
         ensures asks { IfOk result (λ given. All (FitsOutput self.old.header.f) given) }
     {
@@ -233,7 +239,8 @@ impl Agent {
         ensures gives { IfOk result (λ given. given ≡ outputs_of self.old
             (upload_turns (setup self.old) self.old.no (record self.old.agent { waiting = Some For_close }) (closed_of upload) (upload_of upload))) }
         ensures after { OnOk result (self.new ≡ record self.old {
-          agent = (upload_turns (setup self.old) self.old.no (record self.old.agent { waiting = Some For_close }) (closed_of upload) (upload_of upload)).agent;
+          agent = (upload_turns (setup self.old) self.old.no
+              (record self.old.agent { waiting = Some For_close }) (closed_of upload) (upload_of upload)).agent;
         }) }
         ensures asks { IfOk result (λ given. All (FitsOutput self.old.header.f) given) }
     {

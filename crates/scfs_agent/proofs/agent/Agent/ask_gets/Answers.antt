@@ -26,5 +26,8 @@ invariant_of-self c =
 pub returns-clause-asks : goal.returns-clause-asks
 returns-clause-asks c =
     let row = c.args.fetch.row in
-    fits c.args.self.now _ c.self.view_is c.args.clouds.now c.in_ok-gets.gets c.in_ok-gets.ensures.numbers (get_body c.self.inside.header.f row.upload row.length)
-    c.in_ok-given.given (c.in_ok-given.ensures ∙ ap (λ (xs : List Asked). sent_outputs (sent_to (get_body c.self.inside.header.f row.upload row.length) (asked_of xs))) c.as_slice.ensures) c.requires.clouds
+    fits c.args.self.now _ c.self.view_is c.args.clouds.now c.in_ok-gets.gets c.in_ok-gets.ensures.numbers
+    (get_body c.self.inside.header.f row.upload row.length)
+    c.in_ok-given.given (c.in_ok-given.ensures
+    ∙ ap (λ (xs : List Asked). sent_outputs (sent_to (get_body c.self.inside.header.f row.upload row.length) (asked_of xs))) c.as_slice.ensures)
+    c.requires.clouds

@@ -18,5 +18,7 @@ goes_on-requires-clause-upload c =
 pub returns-clause-asks : goal.returns-clause-asks
 returns-clause-asks c =
     let u = c.args.upload in
-    fits c.args.self.now _ c.self.view_is c.args.clouds.now c.in_ok-puts.puts c.in_ok-puts.ensures.numbers (put_body u.row.upload u.unit) c.in_ok-given.given
-    (c.in_ok-given.ensures ∙ ap (λ (xs : List Asked). sent_outputs (sent_to (put_body u.row.upload u.unit) (asked_of xs))) c.as_slice.ensures) c.requires.clouds
+    fits c.args.self.now _ c.self.view_is c.args.clouds.now c.in_ok-puts.puts c.in_ok-puts.ensures.numbers (put_body u.row.upload u.unit)
+    c.in_ok-given.given
+    (c.in_ok-given.ensures
+    ∙ ap (λ (xs : List Asked). sent_outputs (sent_to (put_body u.row.upload u.unit) (asked_of xs))) c.as_slice.ensures) c.requires.clouds

@@ -11,5 +11,6 @@ invariant_of-self-2 c =
     let room = subst (λ (a : AgentState). length a.agent.leases + 1 ≤ a.inputs) (sym c.self.view_is) c.requires.room in
     kept_leases c.self.invariant _
     (subst (AreLeases inside.inputs)
-    (sym (c.in_ok-taken.ensures ∙ ap (with_lease (record { session = c.args.session; until = c.args.until; asked = false })) c.replace-leases.ensures.value))
+    (sym (c.in_ok-taken.ensures
+    ∙ ap (with_lease (record { session = c.args.session; until = c.args.until; asked = false })) c.replace-leases.ensures.value))
     (leased_are inside.inputs c.args.session c.args.until inside.leases c.requires.session room c.self.invariant.leased))

@@ -19,7 +19,8 @@ loop-cloud-preserved c =
           kept_more test c.loop-cloud.cloud c.loop-cloud.clouds c.if-missing.clouds c.loop-cloud.invariant (sym c.missing.ensures ∙ w.if-missing.true)
           (w.clouds-is ∙ w.in_ok-push.ensures.ok)
       | else-missing w ↦
-          left_more test c.loop-cloud.cloud c.loop-cloud.clouds c.if-missing.clouds c.loop-cloud.invariant (sym c.missing.ensures ∙ w.if-missing.false)
+          left_more test c.loop-cloud.cloud c.loop-cloud.clouds c.if-missing.clouds c.loop-cloud.invariant (sym c.missing.ensures
+          ∙ w.if-missing.false)
           w.clouds-is
     ]
 
@@ -35,5 +36,6 @@ returns c =
     record {
       clouds = clouds;
       few = omega (arith, ap length clouds, filter_short test (below (3 * f + 1)), length-below (3 * f + 1), high);
-      within = All-same (λ d. d < 3 * f + 1) c.loop-cloud.clouds _ clouds (All-filter test (λ d. d < 3 * f + 1) (below (3 * f + 1)) (all_below (3 * f + 1)));
+      within = All-same (λ d. d < 3 * f + 1) c.loop-cloud.clouds _ clouds
+          (All-filter test (λ d. d < 3 * f + 1) (below (3 * f + 1)) (all_below (3 * f + 1)));
     }

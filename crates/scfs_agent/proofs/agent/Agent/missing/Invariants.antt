@@ -1,4 +1,4 @@
-use Rattle.std.proofs.Common.{◌≡◌, ◌<◌, ◌+◌, ◌*◌}
+use Rattle.std.proofs.Common.{◌≡◌}
 use Rattle.std.specs.Prelude.{filter, not}
 use Rattle.std.specs.FinSet as set
 use Rattle.scfs_quorum_write.specs.Acks.{clouds_of}

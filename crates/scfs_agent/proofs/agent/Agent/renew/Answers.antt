@@ -6,4 +6,5 @@ use Rattle.scfs_agent.proofs.agent.Agent.renew.Goals as goal
 pub invariant_of-self : goal.invariant_of-self
 invariant_of-self c =
     kept_leases c.self.invariant _
-    (subst (AreLeases c.self.inside.inputs) (sym c.asked.ensures) (renewal_are c.self.inside.inputs c.args.session c.self.inside.leases c.self.invariant.leased))
+    (subst (AreLeases c.self.inside.inputs) (sym c.asked.ensures)
+    (renewal_are c.self.inside.inputs c.args.session c.self.inside.leases c.self.invariant.leased))

@@ -1,7 +1,6 @@
-use Rattle.std.proofs.Common.{List, sym, ◌∙◌, subst, arith, ◌≤◌}
+use Rattle.std.proofs.Common.{sym, ◌∙◌, subst, ◌≤◌}
 use Rattle.scfs_agent.specs.State.{AgentState}
 use Rattle.scfs_agent.specs.Keeping.{AreLeases}
-use Rattle.scfs_agent.specs.declared.types.Output.{Output}
 use Rattle.scfs_agent.proofs.RenewalLemmas.{IsRenewing, renewing_first, renewing_more, renewing_fewer, renewed_gives, renewed_after}
 use Rattle.scfs_agent.proofs.agent.Agent.renew_due.Goals as goal
 
@@ -15,13 +14,15 @@ each-init c =
 pub each-smaller : goal.each-smaller
 each-smaller c =
     renewing_fewer c.args.self.now c.each.self c.args.now c.each.after c.each.given c.each.invariant c.in-Some.session c.next_due.ensures.rising
-    (sym c.next_due.ensures.due ∙ c.in-Some.is) c.renew.new.self c.in_ok-asked.asked c.extend.new.all c.in_ok-asked.ensures.after c.in_ok-asked.ensures.gives
+    (sym c.next_due.ensures.due
+    ∙ c.in-Some.is) c.renew.new.self c.in_ok-asked.asked c.extend.new.all c.in_ok-asked.ensures.after c.in_ok-asked.ensures.gives
     c.in_ok-extend.ensures c.in_ok-asked.ensures.asks
 
 pub each-preserved : goal.each-preserved
 each-preserved c =
     renewing_more c.args.self.now c.each.self c.args.now c.each.after c.each.given c.each.invariant c.in-Some.session c.next_due.ensures.rising
-    (sym c.next_due.ensures.due ∙ c.in-Some.is) c.renew.new.self c.in_ok-asked.asked c.extend.new.all c.in_ok-asked.ensures.after c.in_ok-asked.ensures.gives
+    (sym c.next_due.ensures.due
+    ∙ c.in-Some.is) c.renew.new.self c.in_ok-asked.asked c.extend.new.all c.in_ok-asked.ensures.after c.in_ok-asked.ensures.gives
     c.in_ok-extend.ensures c.in_ok-asked.ensures.asks
 
 pub returns-clause-gives : goal.returns-clause-gives

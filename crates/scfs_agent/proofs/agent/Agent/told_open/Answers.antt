@@ -24,9 +24,9 @@ locked c names r is fits =
     elim c.if-writes.branch [
       | then-writes+in_ok-lease-in-Did w ↦
           let fit = lock_fits old.header.lease c.args.request c.args.writes names c.args.session r c.args.reply.now is fits
-              (did_is c.args.reply.now.result _ _ _ c.in-Did.is) w.if-writes.true in
+          (did_is c.args.reply.now.result _ _ _ c.in-Did.is) w.if-writes.true in
           let until : w.saturating_add.result ≡ c.args.reply.now.now + old.header.lease =
-              omega (arith, fit, w.saturating_add.ensures, ap (λ (a : AgentState). a.header.lease) w.lease.view_is) in
+          omega (arith, fit, w.saturating_add.ensures, ap (λ (a : AgentState). a.header.lease) w.lease.view_is) in
           w.self-is ∙ w.in_ok-lease-in-Did.ensures ∙ ap (λ (n : ℕ). record old { agent = leased old.agent c.args.session n }) until
           ∙ ap (λ (b : Bool). lock b (c.args.reply.now.now + old.header.lease)) (sym w.if-writes.true)
       | else-writes w ↦ w.self-is ∙ ap (λ (b : Bool). lock b (c.args.reply.now.now + old.header.lease)) (sym w.if-writes.false)
@@ -35,11 +35,15 @@ locked c names r is fits =
 pub returns-after-writes-clause-gives : goal.returns-after-writes-clause-gives
 returns-after-writes-clause-gives c = λ names r same is fits.
     subst (λ (p : List Output × AgentState). IfOk c.saw.result (λ given. given ≡ p.0))
-    (open_did c.args.self.now c.if-writes.self (given_now c.args.now c.args.ranks.now) c.args.request c.args.writes names c.args.session r c.args.reply.now
-    c.sight_of-seen.result is (did_is c.args.reply.now.result _ _ _ c.in-Did.is) c.sight_of-seen.ensures (locked c names r is fits)) c.saw.ensures.gives
+    (open_did c.args.self.now c.if-writes.self (given_now c.args.now c.args.ranks.now) c.args.request c.args.writes names c.args.session r
+    c.args.reply.now
+    c.sight_of-seen.result is (did_is c.args.reply.now.result _ _ _ c.in-Did.is) c.sight_of-seen.ensures (locked c names r is fits))
+    c.saw.ensures.gives
 
 pub returns-after-writes-clause-after : goal.returns-after-writes-clause-after
 returns-after-writes-clause-after c = λ names r same is fits.
     subst (λ (p : List Output × AgentState). OnOk c.saw.result (c.saw.new.self ≡ p.1))
-    (open_did c.args.self.now c.if-writes.self (given_now c.args.now c.args.ranks.now) c.args.request c.args.writes names c.args.session r c.args.reply.now
-    c.sight_of-seen.result is (did_is c.args.reply.now.result _ _ _ c.in-Did.is) c.sight_of-seen.ensures (locked c names r is fits)) c.saw.ensures.after
+    (open_did c.args.self.now c.if-writes.self (given_now c.args.now c.args.ranks.now) c.args.request c.args.writes names c.args.session r
+    c.args.reply.now
+    c.sight_of-seen.result is (did_is c.args.reply.now.result _ _ _ c.in-Did.is) c.sight_of-seen.ensures (locked c names r is fits))
+    c.saw.ensures.after

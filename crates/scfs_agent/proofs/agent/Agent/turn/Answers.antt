@@ -1,4 +1,4 @@
-use Rattle.std.proofs.Common.{List, sym, ap, subst}
+use Rattle.std.proofs.Common.{List, sym, subst}
 use Rattle.std.specs.List.{All}
 use Rattle.std.proofs.lemmas.List.Elements.{All-append}
 use Rattle.scfs_agent.specs.State.{AgentState}
@@ -16,4 +16,5 @@ pub returns-clause-asks : goal.returns-clause-asks
 returns-clause-asks c =
     let fits : List Output → Type 0 = All (FitsOutput c.args.self.now.header.f) in
     let more = subst (λ (a : AgentState). All (FitsOutput a.header.f) c.in_ok-more.more) c.in_ok-given.ensures.after c.in_ok-more.ensures.asks in
-    subst fits (sym c.in_ok-extend.ensures) (All-append (FitsOutput c.args.self.now.header.f) c.in_ok-given.given c.in_ok-more.more c.in_ok-given.ensures.asks more)
+    subst fits (sym c.in_ok-extend.ensures)
+    (All-append (FitsOutput c.args.self.now.header.f) c.in_ok-given.given c.in_ok-more.more c.in_ok-given.ensures.asks more)
