@@ -44,9 +44,13 @@ give_event other c h = absurd (none h)
     none : place_of other ≡ Cloud_has c Answer_given → ⊥
     none e = cc
 
-to_all : {X : Type 0} (P : X → Type 0) (xs : List X) → Each P xs → All P xs
+pub to_all : {X : Type 0} (P : X → Type 0) (xs : List X) → Each P xs → All P xs
 to_all P [] h = All-nil P
 to_all P (x ∷ xs) h = All-cons P x xs h.0 (to_all P xs h.1)
+
+pub to_pairs : (ns : List ℕ) → Differ ns → AllPairs (λ m n. m ≢ n) ns
+to_pairs [] h = λ i j d less inside. absurd (omega arith)
+to_pairs (n ∷ ns) h = AllPairs-cons (λ m n. m ≢ n) n ns (to_all (λ m. n ≢ m) ns h.0) (to_pairs ns h.1)
 
 module _ (s : Setup) where
   -- no upload is asked of
@@ -258,10 +262,6 @@ module _ (s : Setup) where
             (done_step past (live state.clock state.tree) state.clock s.header.lease a oldest.number oldest.step refl steps.0, tt);
         postpone = λ a seat oldest rest found is. tt;
       }))
-
-  to_pairs : (ns : List ℕ) → Differ ns → AllPairs (λ m n. m ≢ n) ns
-  to_pairs [] h = λ i j d less inside. absurd (omega arith)
-  to_pairs (n ∷ ns) h = AllPairs-cons (λ m n. m ≢ n) n ns (to_all (λ m. n ≢ m) ns h.0) (to_pairs ns h.1)
 
   acknowledged : (past : History) (e : Entry) (request : RequestNo) (file : FileId) (number : ℕ)
       → IsDone past (actual s (e ∷ past)).tree.versions request file number → IsAcknowledged s e past request file number

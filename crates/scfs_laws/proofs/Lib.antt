@@ -55,6 +55,8 @@ mod NamesApart
 mod NamesLocks
 mod NewestLines
 mod Fenced
+mod FencedPlayed
+mod AckedPlayed
 mod NewestVersions
 mod NewestTree
 mod NewestServes
