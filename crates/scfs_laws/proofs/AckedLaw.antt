@@ -33,7 +33,7 @@ use Rattle.scfs_laws.proofs.NewestLists.{Each, each-map, each-append, each-front
 use Rattle.scfs_laws.proofs.NewestLines.{IsNoCommit, idle_no_commit, comes_no_commit, names_commit_nothing, locks_commit_nothing}
 use Rattle.scfs_laws.proofs.NamesSteps.{session_cases}
 use Rattle.scfs_laws.proofs.Moves.{IsInput, any_reply, has_up, responds}
-use Rattle.scfs_laws.proofs.Ways.{IsIdle, own_input, of_event}
+use Rattle.scfs_laws.proofs.Ways.{IsIdle, own_input, up_there, of_event}
 use Rattle.scfs_laws.proofs.Seats.{Parts, AreSeats, Reacts, seats_kept}
 use Rattle.scfs_laws.proofs.AckedMoves.{Differ, AreClosed, IsStored, IsRequest, IsStep, Keeps, comes as known, moves, begins_keeps, closed_on, step_on}
 
@@ -149,7 +149,7 @@ module _ (s : Setup) where
         let M : Sent → Type 0 = WasSent s past in
         let A : ℕ → CloudRequest → ℕ → Type 0 = WasAcked s (e ∷ past) a in
         let U : UploadNo → List ℕ → Type 0 = WasUploading s past a in
-        let up : is_up seat.agent.life ≡ true = (and_parts (is_up seat.agent.life) (eqb seat.agent.incarnation request.incarnation) there).0 in
+        let up : is_up seat.agent.life ≡ true = up_there seat.agent request there in
         let shown : Contains e.lines (lines.Gave c request (sum_of s answer)) =
         subst (λ ls. Contains ls (lines.Gave c request (sum_of s answer))) (sym same) (0, omega arith, refl) in
         usual a seat (Hears c request answer) M (λ x k. k) (λ x k. inr k)
@@ -181,7 +181,7 @@ module _ (s : Setup) where
           hears = hears;
           told = λ a seat y found k l there. comes_to a seat (Tells y.number y.outcome) refl
               (any_reply (known s a New (WasAcked s (e ∷ past) a) (WasUploading s past a) New) (λ request sight. tt) y.number y.outcome) found k
-              (and_parts (is_up seat.agent.life) (eqb seat.agent.incarnation y.number.incarnation) there).0;
+              (up_there seat.agent y.number there);
           serve = λ a q k. tt;
         })
         same (each-inside (λ x. Unit {0}) New (effect_after s rows past e).sent (λ x inside any. inl inside)

@@ -53,7 +53,7 @@ module _ (s : Setup) (a : ℕ) where
         waits = λ g w free up. (up, refl, tt);
         says_plain = λ g x plain up. (up, refl, tt);
         asks = λ g step other up. (up, refl, (refl, tt));
-        makes = λ g names up. (up, refl, (refl, tt));
+        makes = λ g path names k up. (up, refl, (refl, tt));
         writes = λ g h offset new y k ok up. (up, refl, tt);
         truncates = λ g h size y ok up. (up, refl, tt);
         ends = λ g h up. (up, refl, tt);

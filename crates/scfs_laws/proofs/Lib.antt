@@ -43,6 +43,9 @@ pub mod Ways
 pub mod Seats
 pub mod AckedMoves
 pub mod AckedLaw
+mod DrawnMoves
+mod DrawnServes
+mod DrawnSeats
 mod NewestLists
 mod NewestDraws
 mod NewestKept

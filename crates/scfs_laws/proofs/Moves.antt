@@ -98,13 +98,13 @@ IsPlain (says.Started incarnation) = ⊥
 IsPlain other = Unit {0}
 
 -- a step that makes no file and completes no close
-abbrev pub IsOther : {V : Type 0} → Step V → Type 0
-IsOther (On_names (Make names id)) = ⊥
-IsOther (On_names (Look names)) = Unit {0}
-IsOther (On_locks x) = Unit {0}
-IsOther (On_sessions (Open_read names h)) = Unit {0}
-IsOther (On_sessions (Open_write names h)) = Unit {0}
-IsOther (On_sessions (Commit h v)) = ⊥
+abbrev pub IsCommon : {V : Type 0} → Step V → Type 0
+IsCommon (On_names (Make names id)) = ⊥
+IsCommon (On_names (Look names)) = Unit {0}
+IsCommon (On_locks x) = Unit {0}
+IsCommon (On_sessions (Open_read names h)) = Unit {0}
+IsCommon (On_sessions (Open_write names h)) = Unit {0}
+IsCommon (On_sessions (Commit h v)) = ⊥
 
 module _ {V : Type 0} where
   -- an agent that waits for this
@@ -142,8 +142,8 @@ module _ {V : Type 0} (s : Setup) (vs : Versions V) (a : ℕ) (known : Known V) 
     pub waits : (g : Agent V) (w : Option (Waiting V)) → ¬ IsReading w → P g (silent (awaiting g w))
     pub says_plain : (g : Agent V) (x : Saying) → IsPlain x → P g (saying g x)
     -- steps
-    pub asks : (g : Agent V) (step : Step V) → IsOther step → P g (asks_step a g step)
-    pub makes : (g : Agent V) (names : List (List ℕ)) →
+    pub asks : (g : Agent V) (step : Step V) → IsCommon step → P g (asks_step a g step)
+    pub makes : (g : Agent V) (path : List ℕ) (names : List (List ℕ)) → known.call (calls.Create path) →
         let count : ℕ = g.files + 1 in P g (asks_step a (record g { files = count }) (On_names (Make names (file_id a g.incarnation count))))
     -- sessions
     pub writes : (g : Agent V) (h offset : ℕ) (new : List ℕ) (y : Session) → known.call (calls.Write h offset new)
@@ -237,12 +237,12 @@ module _ {V : Type 0} (s : Setup) (vs : Versions V) (a : ℕ) (known : Known V) 
   unless g (Ok x) on each = each x refl
   unless g (Err why) on each = m.says_plain g (says.Refuses why) tt
 
-  steps : (g : Agent V) (step : Step V) → IsOther step → P g (calls_step a g step)
+  steps : (g : Agent V) (step : Step V) → IsCommon step → P g (calls_step a g step)
   steps g step other =
       after g (awaiting g (Some For_step)) _ (m.waits g (Some For_step) (λ none. none))
       (m.asks (awaiting g (Some For_step)) step other)
 
-  asks_open : (g : Agent V) (step : (session : ℕ) → Session_step V) → ((h : ℕ) → IsOther (On_sessions (step h))) → P g (opens a g step)
+  asks_open : (g : Agent V) (step : (session : ℕ) → Session_step V) → ((h : ℕ) → IsCommon (On_sessions (step h))) → P g (opens a g step)
   asks_open g step other =
       let h : ℕ = g.opens + 1 in
       let next : Agent V = record g { opens = h } in
@@ -263,7 +263,7 @@ module _ {V : Type 0} (s : Setup) (vs : Versions V) (a : ℕ) (known : Known V) 
 
   called_by : (g : Agent V) (call : Call) → known.call call → P g (called a s g call)
   called_by g (calls.Create path) k = unless g (path_names s path) _ (λ names ok.
-      after g (awaiting g (Some For_step)) _ (m.waits g (Some For_step) (λ none. none)) (m.makes (awaiting g (Some For_step)) names))
+      after g (awaiting g (Some For_step)) _ (m.waits g (Some For_step) (λ none. none)) (m.makes (awaiting g (Some For_step)) path names k))
   called_by g (calls.Stat path) k = unless g (any_names s path) _ (λ names ok. steps g (On_names (Look names)) tt)
   called_by g (calls.OpenR path) k = unless g (path_names s path) _ (λ names ok. asks_open g (Open_read names) (λ h. tt))
   called_by g (calls.OpenW path) k = unless g (path_names s path) _ (λ names ok. asks_open g (Open_write names) (λ h. tt))

@@ -1,6 +1,10 @@
 -- Lists: what holds of each item, and of each two; seats by their numbers.
-use Rattle.std.proofs.Common.{◌≡◌, ℕ, ◌+◌, zero, suc, length, nat_lt, refl, List, [], ◌∷◌, ◌++◌, replicate, Bool, true, false, cond, sym, subst, Option, Some, slice_get, slice_set, find, filter, Contains, eqb, arith}
+use Rattle.std.proofs.Common.{◌≡◌, ℕ, ◌+◌, zero, suc, length, nat_lt, refl, ap, ◌∙◌, List, [], ◌∷◌, ◌++◌, replicate, Bool, true, false, cond, sym, subst, Option, Some, slice_get, slice_set, find, filter, Contains, eqb, arith}
+use Rattle.std.specs.Prelude.{◌&&◌, ◌==◌}
+use Rattle.std.proofs.lemmas.Bool.{and_parts, eqb-true}
 use Rattle.std.proofs.lemmas.Bool.Decides.{nat_tests}
+use Rattle.scfs_base.specs.declared.naming.RequestNo.{RequestNo}
+use Rattle.scfs_model.specs.Names.{same_request}
 use Rattle.scfs_model.specs.Lists.{without_first, moved_back, put_by_number}
 
 -- what holds of each item
@@ -176,3 +180,15 @@ put_within n m ms rest false longer = omega (arith, longer)
 pub length-put : (n : ℕ) (ms : List ℕ) → length (put_by_number n ms) ≡ length ms + 1
 length-put n [] = refl
 length-put n (m ∷ ms) = put_within n m ms (put_by_number n ms) (nat_lt n m) (length-put n ms)
+
+-- numbers of requests that pass for one are one
+pub same_number : (r q : RequestNo) → same_request r q ≡ true → r ≡ q
+same_number r q same =
+    let both = and_parts ((r.agent == q.agent) && (r.incarnation == q.incarnation)) (r.number == q.number) same in
+    let first = and_parts (r.agent == q.agent) (r.incarnation == q.incarnation) both.0 in
+    ap (λ a. record { agent = a; incarnation = r.incarnation; number = r.number }) (eqb-true r.agent q.agent first.0)
+    ∙ ap (λ i. record { agent = q.agent; incarnation = i; number = r.number }) (eqb-true r.incarnation q.incarnation first.1)
+    ∙ ap (λ n. record { agent = q.agent; incarnation = q.incarnation; number = n }) (eqb-true r.number q.number both.1)
+
+pub same_itself : (r : RequestNo) → same_request r r ≡ true
+same_itself r = rw (eqb-refl r.agent, eqb-refl r.incarnation, eqb-refl r.number)

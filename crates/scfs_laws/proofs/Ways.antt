@@ -1,5 +1,7 @@
 -- What an event does, in some ways: nothing, the clock going on, an input to an agent, a reply that is gone, a step served, a step postponed.
 use Rattle.std.proofs.Common.{◌≡◌, ℕ, ◌+◌, Bool, true, false, not, cond, List, [], ◌∷◌, refl, Option, Some, None, slice_get}
+use Rattle.std.specs.Prelude.{◌==◌}
+use Rattle.std.proofs.lemmas.Bool.{and_parts}
 use Rattle.scfs_base.specs.declared.naming.RequestNo.{RequestNo}
 use Rattle.scfs_base.specs.declared.cloud.CloudAnswer.{CloudAnswer}
 use Rattle.scfs_schedule.specs.declared.types.Line.{Line}
@@ -9,7 +11,7 @@ use Rattle.scfs_model.specs.Format.{Setup}
 use Rattle.scfs_model.specs.History.{Message, Of_request, Of_answer}
 use Rattle.scfs_model.specs.Versions.{Versions}
 use Rattle.scfs_model.specs.Given.{Given}
-use Rattle.scfs_model.specs.Agents.{Request, Input, Calls, Tells, Hears, Turns, Crashes, Starts}
+use Rattle.scfs_model.specs.Agents.{Request, Agent, Input, Calls, Tells, Hears, Turns, Crashes, Starts}
 use Rattle.scfs_model.specs.Lives.{is_up}
 use Rattle.scfs_model.specs.Events.{At_agent, Call_comes, Turn_comes, Crash_comes, Start_comes, At_space, Step_served, Step_postponed, Reply_told, Request_answered, Answer_given, Message_moved, Place, Agent_has, Space_has, Cloud_has, Clock_has}
 use Rattle.scfs_model.specs.States.{Reply, Seat, State, Effect, sum_of, leaving, with_seat, is_there, postpones, moves, answers_by, comes, serves, tells, gives, at_agent, at_space, at_place}
@@ -30,6 +32,10 @@ own_input (Call_comes call) = Calls call
 own_input Turn_comes = Turns
 own_input Crash_comes = Crashes
 own_input Start_comes = Starts
+
+-- an agent is up where a reply to its request is told
+pub up_there : {V : Type 0} (g : Agent V) (request : RequestNo) → is_there g request ≡ true → is_up g.life ≡ true
+up_there g request there = (and_parts (is_up g.life) (g.incarnation == request.incarnation) there).0
 
 -- an event at a place, about this message of a cloud
 module _ {V : Type 0} (s : Setup) (vs : Versions V) (state : State V) (given : Given) (message : Option Message) (Q : Effect V → Type 0) where
