@@ -1,5 +1,5 @@
 -- What is known of an agent's uploads, by what was sent and acknowledged, it keeps in all that it does, and it asks a commit only of enough.
-use Rattle.std.proofs.Common.{◌≡◌, ◌≢◌, ℕ, ◌+◌, ◌<◌, ◌≤◌, List, [], ◌∷◌, ◌++◌, length, map, nat_lt, Bool, true, false, cond, ◌&&◌, ◌||◌, not, refl, sym, ap, ap₂, ◌∙◌, subst, Option, Some, None, leb-true, eq-eqb, true≢false, nat_le, Contains}
+use Rattle.std.proofs.Common.{◌≡◌, ◌≢◌, ℕ, ◌+◌, ◌<◌, ◌≤◌, List, [], ◌∷◌, ◌++◌, length, map, nat_lt, Bool, true, false, cond, ◌&&◌, ◌||◌, not, refl, sym, ap₂, ◌∙◌, subst, Option, Some, None, leb-true, eq-eqb, true≢false, nat_le, Contains}
 use Rattle.std.specs.Prelude.{◌==◌}
 use Rattle.std.proofs.lemmas.Bool.{and_parts, eqb-true}
 use Rattle.scfs_base.specs.declared.naming.RequestNo.{RequestNo}

@@ -1,5 +1,5 @@
 -- What an agent asks in a reaction it drew in it: requests under new numbers, and files with new ids.
-use Rattle.std.proofs.Common.{◌≡◌, ℕ, ◌+◌, ◌*◌, ◌^◌, ◌<◌, ◌≤◌, List, [], ◌∷◌, true, refl, ap, sym, ◌∙◌, arith, le_refl, le-add_right, Option, Some, None, Result, Ok, Err}
+use Rattle.std.proofs.Common.{◌≡◌, ℕ, ◌+◌, ◌*◌, ◌^◌, ◌<◌, ◌≤◌, List, true, refl, sym, ◌∙◌, arith, le_refl, le-add_right, Option, Some, None, Result, Ok, Err}
 use Rattle.scfs_base.specs.declared.naming.RequestNo.{RequestNo}
 use Rattle.scfs_schedule.specs.declared.types.Call.{Call}
 use Rattle.scfs_schedule.specs.declared.types.Call.TheVariants as calls
@@ -8,7 +8,6 @@ use Rattle.scfs_model.specs.Format.{Setup}
 use Rattle.scfs_model.specs.Versions.{Versions}
 use Rattle.scfs_model.specs.Given.{Given}
 use Rattle.scfs_model.specs.Lives.{is_up, is_ready}
-use Rattle.scfs_model.specs.Names.{request_no}
 use Rattle.scfs_model.specs.NameSteps.{Make, Look}
 use Rattle.scfs_model.specs.LockSteps.{Unlock_all}
 use Rattle.scfs_model.specs.SessionSteps.{Commit}

@@ -1,5 +1,5 @@
 -- The requests that wait are all different and none was served, and the files that they make are new, in fewer than 2^24 events.
-use Rattle.std.proofs.Common.{◌≡◌, ℕ, ◌+◌, ◌*◌, ◌^◌, ◌<◌, ◌≤◌, List, [], ◌∷◌, ◌++◌, length, Bool, true, false, cond, ◌||◌, refl, sym, subst, ap, ◌∙◌, Option, Some, None, slice_get, slice_set, arith, le_refl, le_trans, zero-le}
+use Rattle.std.proofs.Common.{◌≡◌, ℕ, ◌+◌, ◌^◌, ◌<◌, ◌≤◌, List, [], ◌∷◌, ◌++◌, length, Bool, true, false, cond, ◌||◌, refl, sym, subst, ap, ◌∙◌, Some, None, slice_get, slice_set, arith, le_refl, le_trans, zero-le}
 use Rattle.std.specs.List.{list_any}
 use Rattle.scfs_base.specs.declared.naming.RequestNo.{RequestNo}
 use Rattle.scfs_schedule.specs.declared.types.Line.{Line}
@@ -18,15 +18,15 @@ use Rattle.scfs_model.specs.Agents.{Request, Agent, Input, Calls, Tells, Hears, 
 use Rattle.scfs_model.specs.Reactions.{next_life, reacted}
 use Rattle.scfs_model.specs.Events.{At_agent, Call_comes, Turn_comes, Crash_comes, Start_comes, place_of}
 use Rattle.scfs_model.specs.States.{Reply, Seat, State, Effect, sum_of, first_seat, comes, at_place}
-use Rattle.scfs_model.specs.Runs.{state_after, effect_after, Follows}
+use Rattle.scfs_model.specs.Runs.{state_after, Follows}
 use Rattle.scfs_laws.specs.TreeLaws.{CompletionKeeps}
 use Rattle.scfs_laws.specs.Newest.{is_service, before_service}
 use Rattle.scfs_laws.proofs.NewestLists.{Each, Pairs, Places, each-map, each-two, each-append, each-moved, pairs-moved, pairs-join, places_set, places_replicate, same_number}
 use Rattle.scfs_laws.proofs.NewestLines.{IsOfAgent, idle_of_agent, comes_of_agent, no_services}
 use Rattle.scfs_laws.proofs.Ways.{IsIdle, own_input, up_there, of_event}
 use Rattle.scfs_laws.proofs.Moves.{has_up}
-use Rattle.scfs_laws.proofs.DrawnMoves.{IsOther, MakesIn, FilesApart, Apart, files_by, makes_wider, makes_apart, Draws, reacted_draws, started_draws}
-use Rattle.scfs_laws.proofs.DrawnServes.{IsNot, NotAhead, MakesNew, IsOfStep, line_at, serve_line, serves_other, serve_ids, still_new, made_behind, made_elsewhere, elsewhere_apart}
+use Rattle.scfs_laws.proofs.DrawnMoves.{MakesIn, FilesApart, Apart, files_by, makes_wider, makes_apart, Draws, reacted_draws, started_draws}
+use Rattle.scfs_laws.proofs.DrawnServes.{IsNot, NotAhead, MakesNew, line_at, serve_line, serves_other, serve_ids, still_new, made_behind, made_elsewhere, elsewhere_apart}
 
 -- an agent drew a request: one of earlier incarnations, or among so many of this one
 abbrev pub WasDrawn : {V : Type 0} → Agent V → RequestNo → Type 0
@@ -165,7 +165,7 @@ module _ {V : Type 0} where
             )) r.steps draws.4) seat.asked h.drawn);
       }
 
-differ : (r q : RequestNo) → ¬ (r ≡ q) → same_request r q ≡ false
+pub differ : (r q : RequestNo) → ¬ (r ≡ q) → same_request r q ≡ false
 differ r q apart = by (same_request r q) refl
   where
     by : (b : Bool) → same_request r q ≡ b → b ≡ false

@@ -81,6 +81,15 @@ module _ {V : Type 0} (known : Known V) where
   IsInput Crashes = known.crash
   IsInput Starts = known.start
 
+pub reply_on : {V : Type 0} (known more : Known V) → ((request : RequestNo) (sight : Sight V) → known.sight request sight → more.sight request sight)
+    → (request : RequestNo) (o : Outcome V) → IsReply known request o → IsReply more request o
+reply_on known more on request (Of_names x r) k = tt
+reply_on known more on request (Of_locks x r) k = tt
+reply_on known more on request (Of_sessions x (Ok (Sees sight))) k = on request sight k
+reply_on known more on request (Of_sessions x (Ok (Locks sight l))) k = on request sight k
+reply_on known more on request (Of_sessions x (Ok (Completes h v n))) k = tt
+reply_on known more on request (Of_sessions x (Err why)) k = tt
+
 -- whether an agent is up that has this input
 abbrev pub has_up : {V : Type 0} → Input V → Bool
 has_up (Calls call) = true
