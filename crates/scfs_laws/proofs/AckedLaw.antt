@@ -1,7 +1,6 @@
 -- A close that was completed had its objects acknowledged by enough clouds, to the agent and incarnation that asked its commit.
 use Rattle.std.proofs.Common.{◌≡◌, ◌≢◌, inl, inr, ℕ, ◌+◌, List, [], ◌∷◌, ◌++◌, true, false, refl, sym, ap, ◌∙◌, subst, Some, Contains, arith, true≢false, slice_get, length}
-use Rattle.std.specs.List.{All, AllPairs}
-use Rattle.std.proofs.lemmas.List.Elements.{All-nil, All-cons}
+use Rattle.std.specs.List.{AllPairs}
 use Rattle.std.proofs.lemmas.List.Kept.{AllPairs-cons}
 use Rattle.scfs_base.specs.declared.naming.FileId.{FileId}
 use Rattle.scfs_base.specs.declared.naming.RequestNo.{RequestNo}
@@ -28,7 +27,7 @@ use Rattle.scfs_model.specs.Events.{At_agent, Call_comes, Turn_comes, Crash_come
 use Rattle.scfs_model.specs.States.{Seat, State, Effect, first_seat, is_there, comes, sum_of}
 use Rattle.scfs_model.specs.Runs.{actual, effect_after, Happens}
 use Rattle.scfs_laws.specs.Acknowledged.{WasSent, WasAcked, IsUploading, WasUploading, IsAcknowledged, CommitsAreAcknowledged}
-use Rattle.scfs_laws.proofs.NewestLists.{Each, each-map, each-append, each-front, each-back, each-inside, each-always, each_of-contains, places_replicate}
+use Rattle.scfs_laws.proofs.NewestLists.{each-all, Each, each-map, each-append, each-front, each-back, each-inside, each-always, each_of-contains, places_replicate}
 use Rattle.scfs_laws.proofs.NewestLines.{IsNoCommit, idle_no_commit, comes_no_commit, names_commit_nothing, locks_commit_nothing}
 use Rattle.scfs_laws.proofs.NamesSteps.{session_cases}
 use Rattle.scfs_laws.proofs.Moves.{IsInput, any_reply, has_up, responds}
@@ -43,13 +42,9 @@ give_event other c h = absurd (none h)
     none : place_of other ≡ Cloud_has c Answer_given → ⊥
     none e = cc
 
-pub to_all : {X : Type 0} (P : X → Type 0) (xs : List X) → Each P xs → All P xs
-to_all P [] h = All-nil P
-to_all P (x ∷ xs) h = All-cons P x xs h.0 (to_all P xs h.1)
-
 pub to_pairs : (ns : List ℕ) → Differ ns → AllPairs (λ m n. m ≢ n) ns
 to_pairs [] h = λ i j d less inside. absurd (omega arith)
-to_pairs (n ∷ ns) h = AllPairs-cons (λ m n. m ≢ n) n ns (to_all (λ m. n ≢ m) ns h.0) (to_pairs ns h.1)
+to_pairs (n ∷ ns) h = AllPairs-cons (λ m n. m ≢ n) n ns (each-all (λ m. n ≢ m) ns h.0) (to_pairs ns h.1)
 
 module _ (s : Setup) where
   -- no upload is asked of
@@ -275,7 +270,7 @@ module _ (s : Setup) where
         clouds = k.stored.clouds;
         differ = to_pairs k.stored.clouds k.stored.differ;
         are_enough = k.stored.are_enough;
-        acked = to_all _ k.stored.clouds k.stored.acks;
+        acked = each-all _ k.stored.clouds k.stored.acks;
       }
 
   pub commits_acknowledged : (past : History) → Happens s past → CommitsAreAcknowledged s past

@@ -12,7 +12,8 @@ use Rattle.scfs_model.specs.Runs.{actual}
 use Rattle.scfs_model.proofs.ShortFormat.{setup}
 use Rattle.scfs_model.proofs.Played.{entry_of, played}
 use Rattle.scfs_model.proofs.SharedFile.{hi, begins, commits}
-use Rattle.scfs_laws.proofs.AckedLaw.{to_all, to_pairs}
+use Rattle.scfs_laws.proofs.NewestLists.{each-all}
+use Rattle.scfs_laws.proofs.AckedLaw.{to_pairs}
 use Rattle.scfs_laws.specs.Acknowledged.{WasSent, WasAcked, WasUploading, put_of, IsAcknowledged}
 
 abbrev s : Setup
@@ -74,6 +75,6 @@ completed = record {
   clouds = 0 ∷ 1 ∷ 2 ∷ [];
   differ = differ;
   are_enough = omega arith;
-  acked = to_all Acked (0 ∷ 1 ∷ 2 ∷ [])
+  acked = each-all Acked (0 ∷ 1 ∷ 2 ∷ [])
       ((omega arith, inr (inr (inr acked_0))), ((omega arith, inr (inr acked_1)), ((omega arith, inr acked_2), tt)));
 }

@@ -10,11 +10,10 @@ pub mod ToldMaps
 pub mod ReactionMaps
 pub mod StateMaps
 pub mod TwoLayers
-pub mod SoundLists
 pub mod SoundKept
-pub mod SoundCalls
-pub mod SoundOpens
-pub mod SoundReactions
+pub mod SoundContents
+pub mod SoundPieces
+pub mod SoundMoves
 pub mod SoundStates
 pub mod SoundAnswers
 pub mod SoundUnit

@@ -1,6 +1,8 @@
 -- Lists: what holds of each item, and of each two; seats by their numbers.
-use Rattle.std.proofs.Common.{◌≡◌, ℕ, ◌+◌, zero, suc, length, nat_lt, refl, ap, ◌∙◌, List, [], ◌∷◌, ◌++◌, replicate, Bool, true, false, cond, sym, subst, Option, Some, slice_get, slice_set, find, filter, Contains, eqb, arith}
+use Rattle.std.proofs.Common.{◌≡◌, ℕ, ◌+◌, zero, suc, length, nat_lt, refl, ap, ◌∙◌, List, [], ◌∷◌, ◌++◌, replicate, Bool, true, false, cond, sym, subst, Option, Some, IfSome, slice_get, slice_set, find, filter, Contains, eqb, arith}
 use Rattle.std.specs.Prelude.{◌&&◌, ◌==◌}
+use Rattle.std.specs.List.{All}
+use Rattle.std.proofs.lemmas.List.Elements.{All-nil, All-cons}
 use Rattle.std.proofs.lemmas.Bool.{and_parts, eqb-true}
 use Rattle.std.proofs.lemmas.Bool.Decides.{nat_tests}
 use Rattle.scfs_base.specs.declared.naming.RequestNo.{RequestNo}
@@ -54,6 +56,10 @@ module _ {X : Type 0} (P : X → Type 0) where
   each-always f [] = tt
   each-always f (x ∷ xs) = (f x, each-always f xs)
 
+  pub each-all : (xs : List X) → Each P xs → All P xs
+  each-all [] h = All-nil P
+  each-all (x ∷ xs) h = All-cons P x xs h.0 (each-all xs h.1)
+
   pub each-append : (xs ys : List X) → Each P xs → Each P ys → Each P (xs ++ ys)
   each-append [] ys h k = k
   each-append (x ∷ xs) ys h k = (h.0, each-append xs ys h.1 k)
@@ -104,6 +110,15 @@ module _ {X : Type 0} (P : X → Type 0) where
   pub each-found : (p : X → Bool) (xs : List X) (x : X) → Each P xs → find p xs ≡ Some x → P x
   each-found p [] x h found = cc
   each-found p (y ∷ xs) x h found = found_by (p y) y x (find p xs) h.0 (each-found p xs x h.1) found
+
+  -- and of what is found, if it is there
+  found_if : (b : Bool) (x : X) (rest : Option X) → P x → IfSome rest P → IfSome (cond b (Some x) rest) P
+  found_if true x rest h k = h
+  found_if false x rest h k = k
+
+  pub each-find : (p : X → Bool) (xs : List X) → Each P xs → IfSome (find p xs) P
+  each-find p [] h = tt
+  each-find p (x ∷ xs) h = found_if (p x) x (find p xs) h.0 (each-find p xs h.1)
 
   restored_by : (b : Bool) (y x : X) (xs less : List X) (rest : Option X) → P x → (rest ≡ Some x → Each P less → Each P xs)
       → cond b (Some y) rest ≡ Some x → Each P (cond b xs (y ∷ less)) → Each P (y ∷ xs)
