@@ -27,7 +27,7 @@ use Rattle.scfs_model.specs.Events.{At_agent, Call_comes, Turn_comes, Crash_come
 use Rattle.scfs_model.specs.States.{Seat, State, Effect, first_seat, is_there, comes, sum_of}
 use Rattle.scfs_model.specs.Runs.{actual, effect_after, Happens}
 use Rattle.scfs_laws.specs.Acknowledged.{WasSent, WasAcked, IsUploading, WasUploading, IsAcknowledged, CommitsAreAcknowledged}
-use Rattle.scfs_laws.proofs.NewestLists.{each-all, Each, each-map, each-append, each-front, each-back, each-inside, each-always, each_of-contains, places_replicate}
+use Rattle.scfs_laws.proofs.Lists.{each-all, Each, each-map, each-append, each-front, each-back, each-inside, each-always, each_of-contains, places_replicate}
 use Rattle.scfs_laws.proofs.NewestLines.{IsNoCommit, idle_no_commit, comes_no_commit, names_commit_nothing, locks_commit_nothing}
 use Rattle.scfs_laws.proofs.NamesSteps.{session_cases}
 use Rattle.scfs_laws.proofs.Moves.{IsInput, any_reply, has_up, responds}

@@ -24,7 +24,7 @@ use Rattle.scfs_model.specs.Closes.{with_storing, asks_puts}
 use Rattle.scfs_model.specs.Reactions.{next_begun}
 use Rattle.scfs_model.specs.Layers.{Row, Version, rows, row_of}
 use Rattle.scfs_laws.specs.Acknowledged.{put_of}
-use Rattle.scfs_laws.proofs.NewestLists.{Each, Pairs, each-map, each-append, each-front, each-back, each-inside, same_number}
+use Rattle.scfs_laws.proofs.Lists.{Each, Pairs, each-map, each-append, each-front, each-back, each-inside, same_number}
 use Rattle.scfs_laws.proofs.Moves.{Known, IsCommon, Moves, each-below, next_begins}
 
 abbrev pub Differ : List ℕ → Type 0

@@ -12,7 +12,7 @@ use Rattle.scfs_model.specs.Runs.{actual}
 use Rattle.scfs_model.proofs.ShortFormat.{setup}
 use Rattle.scfs_model.proofs.Played.{entry_of, played}
 use Rattle.scfs_model.proofs.SharedFile.{hi, begins, commits}
-use Rattle.scfs_laws.proofs.NewestLists.{each-all}
+use Rattle.scfs_laws.proofs.Lists.{each-all}
 use Rattle.scfs_laws.proofs.AckedLaw.{to_pairs}
 use Rattle.scfs_laws.specs.Acknowledged.{WasSent, WasAcked, WasUploading, put_of, IsAcknowledged}
 

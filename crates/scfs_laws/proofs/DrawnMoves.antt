@@ -15,7 +15,7 @@ use Rattle.scfs_model.specs.Steps.{Step, On_names, On_locks, On_sessions}
 use Rattle.scfs_model.specs.Agents.{Waiting, Request, Agent, Input, Calls, Tells, Hears, Turns, Crashes, Starts, Reaction, silent, asks_step, followed}
 use Rattle.scfs_model.specs.Calls.{path_names, unless_refused, makes, call_of}
 use Rattle.scfs_model.specs.Reactions.{next_life, next_begun, responded, reacted}
-use Rattle.scfs_laws.proofs.NewestLists.{Each, Pairs, chosen, each-map, each-append, pairs-join}
+use Rattle.scfs_laws.proofs.Lists.{Each, Pairs, chosen, each-map, each-append, pairs-join}
 use Rattle.scfs_laws.proofs.Moves.{Known, IsCommon, any_reply, has_up, IsInput, Moves, responds, next_begins}
 
 -- of the requests of one agent, another one

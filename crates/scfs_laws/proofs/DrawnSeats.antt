@@ -21,7 +21,7 @@ use Rattle.scfs_model.specs.States.{Reply, Seat, State, Effect, sum_of, first_se
 use Rattle.scfs_model.specs.Runs.{state_after, Follows}
 use Rattle.scfs_laws.specs.TreeLaws.{CompletionKeeps}
 use Rattle.scfs_laws.specs.Newest.{is_service, before_service}
-use Rattle.scfs_laws.proofs.NewestLists.{Each, Pairs, Places, each-map, each-two, each-append, each-moved, pairs-moved, pairs-join, places_set, places_replicate, same_number}
+use Rattle.scfs_laws.proofs.Lists.{Each, Pairs, Places, each-map, each-two, each-append, each-moved, pairs-moved, pairs-join, places_set, places_replicate, same_number}
 use Rattle.scfs_laws.proofs.NewestLines.{IsOfAgent, idle_of_agent, comes_of_agent, no_services}
 use Rattle.scfs_laws.proofs.Ways.{IsIdle, own_input, up_there, of_event}
 use Rattle.scfs_laws.proofs.Moves.{has_up}

@@ -15,7 +15,7 @@ use Rattle.scfs_model.specs.SessionSteps.{Session_outcome, Sees, Locks, Complete
 use Rattle.scfs_model.specs.Steps.{Step, On_names, On_locks, On_sessions, after_ok, line_of, served, served_line}
 use Rattle.scfs_laws.specs.TreeLaws.{CompletionKeeps}
 use Rattle.scfs_laws.specs.Newest.{is_service}
-use Rattle.scfs_laws.proofs.NewestLists.{Each, each-append, each-without, each-found}
+use Rattle.scfs_laws.proofs.Lists.{Each, each-append, each-without, each-found}
 use Rattle.scfs_laws.proofs.NamesSteps.{make_cases, look_cases, session_cases}
 use Rattle.scfs_laws.proofs.DrawnMoves.{MakesIn, FilesApart}
 

@@ -25,7 +25,7 @@ use Rattle.scfs_model.specs.States.{Seat, State, comes, sum_of}
 use Rattle.scfs_model.specs.Runs.{state_after, effect_after, Follows}
 use Rattle.scfs_laws.specs.TreeLaws.{CompletionKeeps}
 use Rattle.scfs_laws.specs.Fences.{Serves, live_locks, IsLocked, HasSince, CommitsAreFenced}
-use Rattle.scfs_laws.proofs.NewestLists.{Each, eqb-refl, each-map, each-two, each-append, each-without, each-filter, each-fewer, each-found, each_of-contains}
+use Rattle.scfs_laws.proofs.Lists.{Each, eqb-refl, each-map, each-two, each-append, each-without, each-filter, each-fewer, each-found, each_of-contains}
 use Rattle.scfs_laws.proofs.NewestTree.{found_passes}
 use Rattle.scfs_laws.proofs.NewestLines.{IsNoCommit, idle_no_commit, comes_no_commit, names_commit_nothing, locks_commit_nothing}
 use Rattle.scfs_laws.proofs.Ways.{IsIdle, own_input, of_event}

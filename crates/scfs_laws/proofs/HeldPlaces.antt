@@ -23,7 +23,7 @@ use Rattle.scfs_model.specs.States.{Reply, Seat, State, Effect, request_line, le
 use Rattle.scfs_model.specs.Events.{Call_comes}
 use Rattle.scfs_model.specs.Lives.{is_up}
 use Rattle.scfs_laws.specs.Held.{Close_seen, Agent_seen, Seen, of_agent, seen_line, with_close, seen_event}
-use Rattle.scfs_laws.proofs.NewestLists.{eqb-comm}
+use Rattle.scfs_laws.proofs.Lists.{eqb-comm}
 use Rattle.scfs_laws.proofs.HeldStays.{IsUsual, reacted_stays}
 use Rattle.scfs_laws.proofs.HeldMixed.{Mixed, StrayReply, HereReply, Stands}
 use Rattle.scfs_laws.proofs.HeldKeeping.{doing_close, reacted_stands}

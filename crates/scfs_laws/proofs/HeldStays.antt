@@ -6,7 +6,7 @@ use Rattle.scfs_model.specs.Lives.{is_up}
 use Rattle.scfs_model.specs.Agents.{Request, Agent, Input, Calls, Tells, Hears, Turns, Crashes, Starts, Reaction}
 use Rattle.scfs_model.specs.Reactions.{reacted}
 use Rattle.scfs_model.specs.Layers.{Row, rows}
-use Rattle.scfs_laws.proofs.NewestLists.{Each, each-map, each-append}
+use Rattle.scfs_laws.proofs.Lists.{Each, each-map, each-append}
 use Rattle.scfs_laws.proofs.Moves.{Known, IsInput, any_reply, has_up, Moves, reacts}
 
 module _ (s : Setup) (a : ℕ) where

@@ -1,3 +1,4 @@
+pub mod Lists
 pub mod ListMaps
 pub mod AgentMaps
 pub mod LeaseMaps
@@ -45,7 +46,6 @@ pub mod AckedLaw
 mod DrawnMoves
 mod DrawnServes
 mod DrawnSeats
-mod NewestLists
 mod NamesWalks
 mod NamesEvents
 mod NamesSteps

@@ -40,7 +40,7 @@ use Rattle.scfs_model.specs.Closes.{goes_on, with_storing, asks_puts, falls_shor
 use Rattle.scfs_model.specs.Calls.{any_names, path_names, with_session, unless_refused, calls_step, opens, close, called, call_of}
 use Rattle.scfs_model.specs.Told.{is_pending, untold, told_locks, told_open, told_closed, told_commit, told}
 use Rattle.scfs_model.specs.Reactions.{next_life, idle, to_open, to_closed, to_upload, to_work, crashes, responded, begun, next_begun, reacted}
-use Rattle.scfs_laws.proofs.NewestLists.{Each, each-map, each-filter, length-put}
+use Rattle.scfs_laws.proofs.Lists.{Each, each-map, each-filter, length-put}
 
 -- what is known of what comes to an agent: of a call, of a sight that it is told, of an answer of a cloud; and where it has a turn, goes
 -- down and comes up

@@ -13,7 +13,7 @@ use Rattle.scfs_model.specs.Agents.{Request, Input, Calls, Tells, Hears, Turns, 
 use Rattle.scfs_model.specs.Events.{At_agent, Call_comes, Turn_comes, Crash_comes, Start_comes, Place, place_of}
 use Rattle.scfs_model.specs.States.{Reply, Seat, State, Effect, sum_of, leaving, with_seat, postpones, comes, serves, at_place}
 use Rattle.scfs_model.specs.Runs.{state_after}
-use Rattle.scfs_laws.proofs.NewestLists.{Each}
+use Rattle.scfs_laws.proofs.Lists.{Each}
 use Rattle.scfs_laws.proofs.Ways.{IsIdle, own_input, of_event}
 
 -- an input that is no reply and no start

@@ -20,7 +20,7 @@ use Rattle.scfs_model.specs.States.{Reply, Seat, State, Effect, sum_of, first_se
 use Rattle.scfs_model.specs.Runs.{state_after, Follows, Happens, Run}
 use Rattle.scfs_laws.specs.TreeLaws.{CompletionKeeps}
 use Rattle.scfs_laws.specs.Newest.{Saw_line, is_service, after_commit, last_committed, before_service, latest_saw, WasNewest, AreShown, OpensNewest}
-use Rattle.scfs_laws.proofs.NewestLists.{Each, Places, each-map, each-append, places_set, places_replicate}
+use Rattle.scfs_laws.proofs.Lists.{Each, Places, each-map, each-append, places_set, places_replicate}
 use Rattle.scfs_laws.proofs.NewestLines.{IsOfAgent, IsNoCommit, idle_of_agent, no_commit_of-agent, comes_of_agent, no_commits, no_services}
 use Rattle.scfs_laws.proofs.NewestTree.{TreeOk, tree_said}
 use Rattle.scfs_laws.proofs.NewestServes.{SeenAt, SeenBy, serve_tree, serve_seen}

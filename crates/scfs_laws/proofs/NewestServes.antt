@@ -13,7 +13,7 @@ use Rattle.scfs_model.specs.SessionSteps.{Sight, Session_step, Session_outcome, 
 use Rattle.scfs_model.specs.Steps.{Step, On_names, On_locks, On_sessions, after_ok, line_of, served}
 use Rattle.scfs_laws.specs.TreeLaws.{CompletionKeeps}
 use Rattle.scfs_laws.specs.Newest.{after_commit, is_service}
-use Rattle.scfs_laws.proofs.NewestLists.{same_itself, each-found}
+use Rattle.scfs_laws.proofs.Lists.{same_itself, each-found}
 use Rattle.scfs_laws.proofs.NewestVersions.{VersionOk}
 use Rattle.scfs_laws.proofs.DrawnServes.{MakesNew, line_at, there}
 use Rattle.scfs_laws.proofs.NewestLines.{locks_commit_nothing}

@@ -12,7 +12,7 @@ use Rattle.scfs_model.specs.Sayings as says
 use Rattle.scfs_model.specs.Agents.{Sent}
 use Rattle.scfs_model.specs.States.{request_line}
 use Rattle.scfs_laws.specs.Newest.{Saw_line, after_saw, IsShown, AreShown}
-use Rattle.scfs_laws.proofs.NewestLists.{Each, each-map, eqb-apart}
+use Rattle.scfs_laws.proofs.Lists.{Each, each-map, eqb-apart}
 use Rattle.scfs_laws.proofs.Ways.{IsIdle}
 use Rattle.scfs_laws.proofs.DrawnServes.{IsOfStep}
 use Rattle.scfs_laws.proofs.NewestMoves.{after_saying, after_says, SayOk, SaysOk}

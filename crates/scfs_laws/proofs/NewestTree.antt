@@ -12,7 +12,7 @@ use Rattle.scfs_model.specs.Tree.{Node, version_at, is_node_at}
 use Rattle.scfs_model.specs.NameSteps.{new_file}
 use Rattle.scfs_model.specs.SessionSteps.{with_version}
 use Rattle.scfs_laws.specs.Newest.{after_commit}
-use Rattle.scfs_laws.proofs.NewestLists.{Each, Pairs, eqb-refl, eqb-apart, each-map, each-two, each-append, each-front, each-back, each-without, each-restored, pairs-append, pairs-without, pairs-found}
+use Rattle.scfs_laws.proofs.Lists.{Each, Pairs, eqb-refl, eqb-apart, each-map, each-two, each-append, each-front, each-back, each-without, each-restored, pairs-append, pairs-without, pairs-found}
 use Rattle.scfs_laws.proofs.NewestVersions.{VersionOk, version_zero, version_kept, version_there}
 use Rattle.scfs_laws.proofs.DrawnServes.{IsNot}
 use Rattle.scfs_laws.proofs.NewestLines.{IsNoCommit, commits_nothing}

@@ -15,7 +15,7 @@ use Rattle.scfs_model.specs.Agents.{Sent}
 use Rattle.scfs_model.specs.Events.{Place, Cloud_has, Request_answered, place_of}
 use Rattle.scfs_model.specs.Runs.{effect_after}
 use Rattle.scfs_model.specs.Clouds.{moved_by, asked_by, all_asked, net, did_message, reply_message, message_of, IsServed}
-use Rattle.scfs_laws.proofs.NewestLists.{Each, each-append, each-moved}
+use Rattle.scfs_laws.proofs.Lists.{Each, each-append, each-moved}
 
 set_cases : {X : Type 0} (xs : List X) (n c : ℕ) (v d : X) → (get_or (set xs n v) c d ≡ get_or xs c d) ⊎ ((n ≡ c) × (get_or (set xs n v) c d ≡ v))
 set_cases [] n c v d = inl refl

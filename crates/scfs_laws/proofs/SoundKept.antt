@@ -22,7 +22,7 @@ use Rattle.scfs_model.specs.Steps.{Step, On_sessions, Outcome, Of_sessions}
 use Rattle.scfs_model.specs.Agents.{Opening, Waiting, For_clouds, Upload, Closed, Request, Agent, Sent}
 use Rattle.scfs_model.specs.Events.{At_agent, Call_comes, Turn_comes, Crash_comes, Start_comes, Answer_given, Place, Agent_has, Cloud_has}
 use Rattle.scfs_model.specs.States.{Reply, State}
-use Rattle.scfs_laws.proofs.NewestLists.{Each}
+use Rattle.scfs_laws.proofs.Lists.{Each}
 use Rattle.scfs_laws.proofs.Moves.{Known}
 use Rattle.scfs_laws.proofs.Seats.{Parts, AreSeats}
 

@@ -25,7 +25,7 @@ use Rattle.scfs_model.specs.Clouds.{net, message_of, IsServed}
 use Rattle.scfs_laws.specs.Sound.{FitsPlace, WasClosed, IsSound}
 use Rattle.scfs_laws.specs.Blocks.{blocks_asked, blocks_sent, blocks_answered, blocks_at, new_blocks, blocks}
 use Rattle.scfs_laws.specs.Laws.{WritesBytes, BringsBytes, AreEvents, SoundWithoutClash, RunsWithoutClash, NoClashBefore}
-use Rattle.scfs_laws.proofs.NewestLists.{Each, places_replicate}
+use Rattle.scfs_laws.proofs.Lists.{Each, places_replicate}
 use Rattle.scfs_laws.proofs.SoundKept.{IsSession, IsWritten, parts, IsState, IsGiven, IsPlace, IsAsked, IsSent}
 use Rattle.scfs_laws.proofs.Seats.{IsSeat}
 use Rattle.scfs_laws.proofs.SoundStates.{place_keeps, place_fits}

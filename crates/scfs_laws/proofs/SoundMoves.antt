@@ -16,7 +16,7 @@ use Rattle.scfs_model.specs.Agents.{Waiting, For_step, For_clouds, For_close, Cl
 use Rattle.scfs_model.specs.Opens.{Found, As_empty, On_clouds, found_version, found}
 use Rattle.scfs_model.specs.Closes.{begins}
 use Rattle.scfs_model.specs.Reactions.{reacted}
-use Rattle.scfs_laws.proofs.NewestLists.{Each, chosen, each-append, each-front, each-back}
+use Rattle.scfs_laws.proofs.Lists.{Each, chosen, each-append, each-front, each-back}
 use Rattle.scfs_laws.proofs.SoundKept.{IsSession, IsVersion, IsSent, IsClosed, IsStep, IsRequest, IsWaiting, IsAgent, known}
 use Rattle.scfs_laws.proofs.SoundContents.{IsChanged, no_contents, opened_fits, there_fits, ended_fits, after_fits, write_fits, truncate_fits}
 use Rattle.scfs_laws.proofs.SoundPieces.{none_good, heard_good}

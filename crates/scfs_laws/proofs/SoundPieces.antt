@@ -13,7 +13,7 @@ use Rattle.scfs_unit.specs.declared.pieces.KeptPiece.{KeptPiece}
 use Rattle.scfs_model.specs.Format.{Setup}
 use Rattle.scfs_model.specs.Asked.{is_answer_to}
 use Rattle.scfs_model.specs.Reading.{Reading, if_size, piece_in, is_good, is_awaited}
-use Rattle.scfs_laws.proofs.NewestLists.{each-append}
+use Rattle.scfs_laws.proofs.Lists.{each-append}
 use Rattle.scfs_laws.proofs.SoundKept.{IsGood, IsFrom, AreGood, IsHeard}
 
 sized_by : (b : Bool) (p piece : KeptPiece) → (if b then Some p else None) ≡ Some piece → Some p ≡ Some piece

@@ -18,7 +18,7 @@ use Rattle.scfs_model.specs.Agents.{Agent, Tells, Hears, Opening, Waiting, For_c
 use Rattle.scfs_model.specs.Events.{At_agent, Call_comes, Turn_comes, Crash_comes, Start_comes, Answer_given, Place, Agent_has, Cloud_has}
 use Rattle.scfs_model.specs.States.{Seat, State, Effect, at_place}
 use Rattle.scfs_laws.specs.Sound.{FitsRead, FitsHeard, FitsAt, FitsGiven, FitsPlace, WasClosed}
-use Rattle.scfs_laws.proofs.NewestLists.{Each, each-append, each-find}
+use Rattle.scfs_laws.proofs.Lists.{Each, each-append, each-find}
 use Rattle.scfs_laws.proofs.SoundKept.{IsVersion, IsStep, IsSessionStep, IsRequest, IsSessionOutcome, IsOk, IsOutcome, IsState, IsSent, IsGiven, IsPlace, AreGood, IsOpening, IsWaiting, IsHeard, parts, known}
 use Rattle.scfs_laws.proofs.SoundPieces.{heard_good}
 use Rattle.scfs_laws.proofs.SoundMoves.{reacted_keeps}

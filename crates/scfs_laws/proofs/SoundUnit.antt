@@ -29,7 +29,7 @@ use Rattle.scfs_model.specs.Format.{Setup, clouds_of, seed_of, object_at}
 use Rattle.scfs_model.specs.Format as format
 use Rattle.scfs_model.specs.UnitFormat.{draw_for, accepted, under}
 use Rattle.scfs_model.specs.Layers.{Version}
-use Rattle.scfs_laws.proofs.NewestLists.{each-all}
+use Rattle.scfs_laws.proofs.Lists.{each-all}
 use Rattle.scfs_laws.proofs.SoundKept.{IsVersion, IsGood, IsHeard}
 use Rattle.scfs_laws.proofs.SoundStates.{GivesBack}
 

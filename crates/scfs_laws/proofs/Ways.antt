@@ -15,7 +15,7 @@ use Rattle.scfs_model.specs.Agents.{Request, Agent, Input, Calls, Tells, Hears, 
 use Rattle.scfs_model.specs.Lives.{is_up}
 use Rattle.scfs_model.specs.Events.{At_agent, Call_comes, Turn_comes, Crash_comes, Start_comes, At_space, Step_served, Step_postponed, Reply_told, Request_answered, Answer_given, Message_moved, Place, Agent_has, Space_has, Cloud_has, Clock_has}
 use Rattle.scfs_model.specs.States.{Reply, Seat, State, Effect, sum_of, leaving, with_seat, is_there, postpones, moves, answers_by, comes, serves, tells, gives, at_agent, at_space, at_place}
-use Rattle.scfs_laws.proofs.NewestLists.{Each}
+use Rattle.scfs_laws.proofs.Lists.{Each}
 use Rattle.scfs_laws.proofs.Moves.{has_up}
 
 -- a line that is neither the space's nor an agent's
