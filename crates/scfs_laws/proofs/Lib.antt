@@ -41,6 +41,7 @@ mod HeldPlayed
 pub mod Moves
 pub mod Ways
 pub mod Seats
+mod Commits
 pub mod AckedMoves
 pub mod AckedLaw
 mod DrawnMoves
