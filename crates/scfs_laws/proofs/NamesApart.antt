@@ -14,7 +14,7 @@ use Rattle.scfs_model.specs.Runs.{state_after}
 use Rattle.scfs_laws.specs.TreeLaws.{has_place, NamesDiffer, CompletionKeeps}
 use Rattle.scfs_laws.proofs.Lists.{Each, Pairs, eqb-comm, each-map, pairs-append, pairs-without, pairs-found}
 use Rattle.scfs_laws.proofs.NamesSteps.{make_cases, look_cases, session_cases}
-use Rattle.scfs_laws.proofs.NamesEvents.{tree_always}
+use Rattle.scfs_laws.proofs.Ways.{tree_always}
 
 -- a test that finds nothing fails at each
 fails_by : {X : Type 0} (b : Bool) (x : X) (rest : Option X) → cond b (Some x) rest ≡ None → (b ≡ false) × (rest ≡ None)

@@ -15,7 +15,7 @@ use Rattle.scfs_model.specs.Runs.{state_after}
 use Rattle.scfs_laws.specs.TreeLaws.{LocksAlone}
 use Rattle.scfs_laws.proofs.Lists.{Each, Pairs, eqb-refl, eqb-comm, each-map, each-two, pairs-append, pairs-without, pairs-filter, pairs-found}
 use Rattle.scfs_laws.proofs.NamesSteps.{session_cases}
-use Rattle.scfs_laws.proofs.NamesEvents.{tree_always}
+use Rattle.scfs_laws.proofs.Ways.{tree_always}
 use Rattle.scfs_laws.proofs.NamesApart.{fails_at_each, finds_nothing}
 
 -- two locks are on different files

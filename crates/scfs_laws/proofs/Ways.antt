@@ -8,12 +8,15 @@ use Rattle.scfs_schedule.specs.declared.types.Line.{Line}
 use Rattle.scfs_schedule.specs.declared.types.Line.TheVariants as lines
 use Rattle.scfs_model.specs.Lists.{if_some}
 use Rattle.scfs_model.specs.Format.{Setup}
-use Rattle.scfs_model.specs.History.{Message, Of_request, Of_answer}
+use Rattle.scfs_model.specs.History.{Message, Of_request, Of_answer, History}
 use Rattle.scfs_model.specs.Versions.{Versions}
-use Rattle.scfs_model.specs.Given.{Given}
+use Rattle.scfs_model.specs.Given.{Given, given_of}
+use Rattle.scfs_model.specs.Tree.{Tree, empty_tree, live}
+use Rattle.scfs_model.specs.Steps.{Step, served}
+use Rattle.scfs_model.specs.Runs.{state_after}
 use Rattle.scfs_model.specs.Agents.{Request, Agent, Input, Calls, Tells, Hears, Turns, Crashes, Starts}
 use Rattle.scfs_model.specs.Lives.{is_up}
-use Rattle.scfs_model.specs.Events.{At_agent, Call_comes, Turn_comes, Crash_comes, Start_comes, At_space, Step_served, Step_postponed, Reply_told, Request_answered, Answer_given, Message_moved, Place, Agent_has, Space_has, Cloud_has, Clock_has}
+use Rattle.scfs_model.specs.Events.{At_agent, Call_comes, Turn_comes, Crash_comes, Start_comes, At_space, Step_served, Step_postponed, Reply_told, Request_answered, Answer_given, Message_moved, Place, Agent_has, Space_has, Cloud_has, Clock_has, place_of}
 use Rattle.scfs_model.specs.States.{Reply, Seat, State, Effect, sum_of, leaving, with_seat, is_there, postpones, moves, answers_by, comes, serves, tells, gives, at_agent, at_space, at_place}
 use Rattle.scfs_laws.proofs.Lists.{Each}
 use Rattle.scfs_laws.proofs.Moves.{has_up}
@@ -134,3 +137,25 @@ module _ {V : Type 0} (s : Setup) (vs : Versions V) (state : State V) (given : G
   of_event (Cloud_has c Answer_given) ways = of_gives c message refl ways
   of_event (Cloud_has c Message_moved) ways = of_moves c message ways
   of_event (Clock_has ticks) ways = ways.later ticks
+
+-- what steps keep of the tree, each event keeps, and holds of the first tree, holds after each history
+module _ {V : Type 0} (s : Setup) (vs : Versions V) (T : Tree V → Type 0)
+    (each : (tree : Tree V) (now lease : ℕ) (request : RequestNo) (step : Step V) → T tree → T
+    (served vs (live now tree) now lease request step).tree) where
+  pub tree_always : T empty_tree → (past : History) → T (state_after s vs past).tree
+  tree_always first [] = first
+  tree_always first (e ∷ past) =
+      let state : State V = state_after s vs past in
+      let before : T state.tree = tree_always first past in
+      of_event s vs state (given_of state.clock e) e.message (λ x. T x.state.tree) (place_of e.event)
+      (record {
+        nothing = λ shown idle. before;
+        later = λ ticks. before;
+        gone = λ a seat request found. before;
+        missed = λ a seat oldest rest found is. before;
+        own = λ a seat x found is up. before;
+        hears = λ c request answer seat found is about there. before;
+        told = λ a seat oldest rest found is there. before;
+        serve = λ a seat oldest rest found is at. each state.tree state.clock s.header.lease oldest.number oldest.step before;
+        postpone = λ a seat oldest rest found is. before;
+      })
