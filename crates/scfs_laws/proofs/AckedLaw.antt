@@ -1,9 +1,7 @@
 -- A close that was completed had its objects acknowledged by enough clouds, to the agent and incarnation that asked its commit.
-use Rattle.std.proofs.Common.{◌≡◌, ◌≢◌, inl, inr, ℕ, ◌+◌, List, [], ◌∷◌, ◌++◌, true, false, refl, sym, ap, ◌∙◌, subst, Some, Contains, arith, true≢false, slice_get, length, eqb}
-use Rattle.std.specs.List.{All, AllPairs}
-use Rattle.std.proofs.lemmas.List.Elements.{All-nil, All-cons}
+use Rattle.std.proofs.Common.{◌≡◌, ◌≢◌, inl, inr, ℕ, List, [], ◌∷◌, ◌++◌, true, false, refl, sym, ap, ◌∙◌, subst, Some, Contains, arith, true≢false, slice_get, length}
+use Rattle.std.specs.List.{AllPairs}
 use Rattle.std.proofs.lemmas.List.Kept.{AllPairs-cons}
-use Rattle.std.proofs.lemmas.Bool.{and_parts}
 use Rattle.scfs_base.specs.declared.naming.FileId.{FileId}
 use Rattle.scfs_base.specs.declared.naming.RequestNo.{RequestNo}
 use Rattle.scfs_base.specs.declared.naming.UploadNo.{UploadNo}
@@ -11,31 +9,26 @@ use Rattle.scfs_base.specs.declared.cloud.CloudAnswer.{CloudAnswer}
 use Rattle.scfs_base.specs.declared.cloud.CloudRequest.{CloudRequest}
 use Rattle.scfs_schedule.specs.declared.types.Event.{Event}
 use Rattle.scfs_schedule.specs.declared.types.Event.TheVariants as events
-use Rattle.scfs_schedule.specs.declared.types.Line.{Line}
 use Rattle.scfs_schedule.specs.declared.types.Line.TheVariants as lines
 use Rattle.scfs_model.specs.Format.{Setup}
 use Rattle.scfs_model.specs.History.{Of_answer, Entry, History}
 use Rattle.scfs_model.specs.Given.{Given, given_of}
 use Rattle.scfs_model.specs.Lives.{is_up}
-use Rattle.scfs_model.specs.Tree.{Tree, live}
-use Rattle.scfs_model.specs.NameSteps.{name_outcome}
-use Rattle.scfs_model.specs.LockSteps.{lock_outcome}
-use Rattle.scfs_model.specs.SessionSteps.{session_after, session_line}
-use Rattle.scfs_model.specs.Steps.{Step, On_names, On_locks, On_sessions, after_ok, line_of, Served, served, served_line}
+use Rattle.scfs_model.specs.SessionSteps.{Commit}
+use Rattle.scfs_model.specs.Steps.{On_sessions}
 use Rattle.scfs_model.specs.Agents.{Closed, Request, Agent, Input, Calls, Tells, Hears, Turns, Starts, Sent, Reaction}
 use Rattle.scfs_model.specs.Reactions.{responded, next_begun, reacted}
 use Rattle.scfs_model.specs.Layers.{Row, rows}
 use Rattle.scfs_model.specs.Events.{At_agent, Call_comes, Turn_comes, Crash_comes, Start_comes, Answer_given, Cloud_has, place_of}
-use Rattle.scfs_model.specs.States.{Seat, State, Effect, first_seat, is_there, comes, sum_of}
+use Rattle.scfs_model.specs.States.{Seat, State, first_seat, is_there, comes, sum_of}
 use Rattle.scfs_model.specs.Runs.{actual, effect_after, Happens}
 use Rattle.scfs_laws.specs.Acknowledged.{WasSent, WasAcked, IsUploading, WasUploading, IsAcknowledged, CommitsAreAcknowledged}
-use Rattle.scfs_laws.proofs.NewestLists.{Each, each-map, each-append, each-front, each-back, each-inside, each-always, each_of-contains, places_replicate}
-use Rattle.scfs_laws.proofs.NewestLines.{IsNoCommit, idle_no_commit, comes_no_commit, names_commit_nothing, locks_commit_nothing}
-use Rattle.scfs_laws.proofs.NamesSteps.{session_cases}
+use Rattle.scfs_laws.proofs.Lists.{each-all, Each, each-map, each-append, each-front, each-back, each-inside, each-always, places_replicate}
+use Rattle.scfs_laws.proofs.Commits.{committed}
 use Rattle.scfs_laws.proofs.Moves.{IsInput, any_reply, has_up, responds}
-use Rattle.scfs_laws.proofs.Ways.{IsIdle, own_input, of_event}
+use Rattle.scfs_laws.proofs.Ways.{own_input, up_there}
 use Rattle.scfs_laws.proofs.Seats.{Parts, AreSeats, Reacts, seats_kept}
-use Rattle.scfs_laws.proofs.AckedMoves.{Differ, AreClosed, IsStored, IsRequest, IsStep, Keeps, comes as known, moves, begins_keeps, closed_on, step_on}
+use Rattle.scfs_laws.proofs.AckedMoves.{Differ, AreClosed, IsHeld, IsStored, IsRequest, Keeps, comes as known, moves, begins_keeps, closed_on, step_on}
 
 give_event : (event : Event) (c : ℕ) → place_of event ≡ Cloud_has c Answer_given → event ≡ events.Give c
 give_event (events.Give d) c h = cc
@@ -44,9 +37,9 @@ give_event other c h = absurd (none h)
     none : place_of other ≡ Cloud_has c Answer_given → ⊥
     none e = cc
 
-to_all : {X : Type 0} (P : X → Type 0) (xs : List X) → Each P xs → All P xs
-to_all P [] h = All-nil P
-to_all P (x ∷ xs) h = All-cons P x xs h.0 (to_all P xs h.1)
+pub to_pairs : (ns : List ℕ) → Differ ns → AllPairs (λ m n. m ≢ n) ns
+to_pairs [] h = λ i j d less inside. absurd (omega arith)
+to_pairs (n ∷ ns) h = AllPairs-cons (λ m n. m ≢ n) n ns (each-all (λ m. n ≢ m) ns h.0) (to_pairs ns h.1)
 
 module _ (s : Setup) where
   -- no upload is asked of
@@ -145,7 +138,7 @@ module _ (s : Setup) where
         let M : Sent → Type 0 = WasSent s past in
         let A : ℕ → CloudRequest → ℕ → Type 0 = WasAcked s (e ∷ past) a in
         let U : UploadNo → List ℕ → Type 0 = WasUploading s past a in
-        let up : is_up seat.agent.life ≡ true = (and_parts (is_up seat.agent.life) (eqb seat.agent.incarnation request.incarnation) there).0 in
+        let up : is_up seat.agent.life ≡ true = up_there seat.agent request there in
         let shown : Contains e.lines (lines.Gave c request (sum_of s answer)) =
         subst (λ ls. Contains ls (lines.Gave c request (sum_of s answer))) (sym same) (0, omega arith, refl) in
         usual a seat (Hears c request answer) M (λ x k. k) (λ x k. inr k)
@@ -177,7 +170,7 @@ module _ (s : Setup) where
           hears = hears;
           told = λ a seat y found k l there. comes_to a seat (Tells y.number y.outcome) refl
               (any_reply (known s a New (WasAcked s (e ∷ past) a) (WasUploading s past a) New) (λ request sight. tt) y.number y.outcome) found k
-              (and_parts (is_up seat.agent.life) (eqb seat.agent.incarnation y.number.incarnation) there).0;
+              (up_there seat.agent y.number there);
           serve = λ a q k. tt;
         })
         same (each-inside (λ x. Unit {0}) New (effect_after s rows past e).sent (λ x inside any. inl inside)
@@ -189,100 +182,31 @@ module _ (s : Setup) where
       (λ a. record { agent = record { up = λ up. tt; down = λ down. refl }; steps = tt; replies = tt })
   parts_after (e ∷ past) happens = next_parts past e happens.0 (parts_after past happens.1)
 
-  -- each committed line, with the versions of the tree after it
-
-  record IsDone (past : History) (versions : List Row) (request : RequestNo) (file : FileId) (number : ℕ) : Type 0 where
-    row : Row
-    moment : ℕ
-    is_put : versions ≡ (actual s past).tree.versions ++ rows.completed row moment ∷ []
-    of_file : row.file ≡ file
-    of_number : row.number ≡ number
-    stored : IsStored s request.agent (WasSent s past) (WasAcked s past request.agent) (WasUploading s past request.agent) request.incarnation row
-
-  abbrev LineDone : History → (versions : List Row) → Line → Type 0
-  LineDone past versions (lines.Committed request file number) = IsDone past versions request file number
-  LineDone past versions other = Unit {0}
-
-  others_done : (past : History) (versions : List Row) (l : Line) → IsNoCommit l → LineDone past versions l
-  others_done past versions (lines.Committed request file number) none = absurd none
-  others_done past versions _ none = tt
-
-  done_step : (past : History) (tree : Tree Row) (now lease a : ℕ) (request : RequestNo) (step : Step Row) → tree.versions ≡ (actual s past).tree.versions
-      → IsStep s a (WasSent s past) (WasAcked s past a) (WasUploading s past a) request step →
-      let x : Served Row = served rows tree now lease request step in LineDone past x.tree.versions (served_line rows request x.outcome)
-  done_step past tree moment lease a request (On_names x) same k = others_done past _ _ (names_commit_nothing request (name_outcome tree.nodes x))
-  done_step past tree moment lease a request (On_locks x) same k =
-      others_done past _ _ (locks_commit_nothing request (lock_outcome tree.locks (moment + lease) request x))
-  done_step past tree moment lease a request (On_sessions x) same k =
-      session_cases rows tree moment (moment + lease) request
-      (λ y r. IsStep s a (WasSent s past) (WasAcked s past a) (WasUploading s past a) request (On_sessions y)
-      → LineDone past (after_ok tree (session_after rows tree request) r).versions (line_of request (session_line rows) r))
-      (λ y why k. tt)
-      (record {
-        sees = λ names session n there k. tt;
-        locks = λ names session n there free k. tt;
-        completes = λ session v l n held there k. record {
-          row = v;
-          moment = moment;
-          is_put = ap (λ vs. vs ++ rows.completed v moment ∷ []) same;
-          of_file = refl;
-          of_number = refl;
-          stored = subst (λ b. IsStored s b (WasSent s past) (WasAcked s past b) (WasUploading s past b) request.incarnation v) (sym k.0) k.1;
-        };
-      })
-      x k
-
-  lines_done : (past : History) (e : Entry) → AreSeats (parts past) (actual s past).seats → e.lines ≡ (effect_after s rows past e).lines
-      → Each (LineDone past (actual s (e ∷ past)).tree.versions) e.lines
-  lines_done past e h same =
+  -- each committed line
+  acknowledged : (past : History) (e : Entry) → AreSeats (parts past) (actual s past).seats → e.lines ≡ (effect_after s rows past e).lines
+      → (request : RequestNo) (file : FileId) (number : ℕ) → Contains e.lines (lines.Committed request file number)
+      → IsAcknowledged s e past request file number
+  acknowledged past e h same request file number inside =
       let state : State Row = actual s past in
-      let given : Given = given_of state.clock e in
-      let quiet : (x : Effect Row) → Each IsNoCommit x.lines → Each (LineDone past x.state.tree.versions) x.lines = λ x. each-map _ _
-      (others_done past x.state.tree.versions) x.lines in
-      let come : (a : ℕ) (first : List Line) (input : Input Row) (seat : Seat Row) → Each IsIdle first →
-      let x : Effect Row = comes s rows state a given first input seat in Each (LineDone past x.state.tree.versions) x.lines =
-      λ a first input seat idle. quiet (comes s rows state a given first input seat) (comes_no_commit s rows state a given first input seat idle) in
-      subst (Each (LineDone past (actual s (e ∷ past)).tree.versions)) (sym same)
-      (of_event s rows state given e.message (λ x. Each (LineDone past x.state.tree.versions) x.lines) (place_of e.event)
-      (record {
-        nothing = λ shown idle. each-map _ _ (λ l k. others_done past state.tree.versions l (idle_no_commit l k)) shown idle;
-        later = λ ticks. tt;
-        gone = λ a seat request found. (tt, tt);
-        missed = λ a seat oldest rest found is. (tt, tt);
-        own = λ a seat x found place up. come a [] (own_input x) seat tt;
-        hears = λ c request answer seat found place message up.
-            come request.agent (lines.Gave c request (sum_of s answer) ∷ []) (Hears c request answer) seat (tt, tt);
-        told = λ a seat oldest rest found is up. come a [] (Tells oldest.number oldest.outcome) (record seat { replied = rest }) tt;
-        serve = λ a seat oldest rest found is place.
-            let steps : Each ((parts past).step a) (oldest ∷ rest) = subst (Each ((parts past).step a)) is (h a seat found).steps in
-            (done_step past (live state.clock state.tree) state.clock s.header.lease a oldest.number oldest.step refl steps.0, tt);
-        postpone = λ a seat oldest rest found is. tt;
-      }))
-
-  to_pairs : (ns : List ℕ) → Differ ns → AllPairs (λ m n. m ≢ n) ns
-  to_pairs [] h = λ i j d less inside. absurd (omega arith)
-  to_pairs (n ∷ ns) h = AllPairs-cons (λ m n. m ≢ n) n ns (to_all (λ m. n ≢ m) ns h.0) (to_pairs ns h.1)
-
-  acknowledged : (past : History) (e : Entry) (request : RequestNo) (file : FileId) (number : ℕ)
-      → IsDone past (actual s (e ∷ past)).tree.versions request file number → IsAcknowledged s e past request file number
-  acknowledged past e request file number k =
-      let same = ap (λ v. rows.completed v k.moment) k.stored.is_row in
+      let k = committed s rows state (given_of state.clock e) e.message (place_of e.event) request file number
+      (subst (λ ls. Contains ls (lines.Committed request file number)) same inside) in
+      let steps : Each ((parts past).step k.a) ((record { number = request; step = On_sessions (Commit k.session k.version) }) ∷ k.rest) =
+      subst (Each ((parts past).step k.a)) k.asked (h k.a k.seat k.found).steps in
+      let stored : IsStored s request.agent (WasSent s past) (WasAcked s past request.agent) (WasUploading s past request.agent) request.incarnation k.version =
+      subst (λ b. IsStored s b (WasSent s past) (WasAcked s past b) (WasUploading s past b) request.incarnation k.version) (sym steps.0.0) steps.0.1 in
       record {
-        close = record k.stored.close { moment = k.moment };
-        is_put = k.is_put ∙ ap (λ v. (actual s past).tree.versions ++ v ∷ []) same;
-        of_file = sym (ap (λ (v : Row). v.file) k.stored.is_row) ∙ k.of_file;
-        of_number = sym (ap (λ (v : Row). v.number) k.stored.is_row) ∙ k.of_number;
-        was_uploading = k.stored.had;
-        clouds = k.stored.clouds;
-        differ = to_pairs k.stored.clouds k.stored.differ;
-        are_enough = k.stored.are_enough;
-        acked = to_all _ k.stored.clouds k.stored.acks;
+        close = record stored.close { moment = state.clock };
+        is_put = k.is_put ∙ ap (λ v. state.tree.versions ++ rows.completed v state.clock ∷ []) stored.is_row;
+        of_file = sym (ap (λ (v : Row). v.file) stored.is_row) ∙ k.of_file;
+        of_number = sym (ap (λ (v : Row). v.number) stored.is_row) ∙ k.of_number;
+        was_uploading = stored.had;
+        clouds = stored.clouds;
+        differ = to_pairs stored.clouds stored.differ;
+        are_enough = stored.are_enough;
+        acked = each-all (IsHeld s request.agent (WasSent s past) (WasAcked s past request.agent) (WasUploading s past request.agent)
+            request.incarnation stored.close.upload stored.close.bytes) stored.clouds stored.acks;
       }
 
   pub commits_acknowledged : (past : History) → Happens s past → CommitsAreAcknowledged s past
   commits_acknowledged [] happens = tt
-  commits_acknowledged (e ∷ past) happens = (
-    λ request file number inside. acknowledged past e request file number (each_of-contains (LineDone past (actual s (e ∷ past)).tree.versions) e.lines
-        (lines.Committed request file number) (lines_done past e (parts_after past happens.1) happens.0) inside),
-    commits_acknowledged past happens.1,
-  )
+  commits_acknowledged (e ∷ past) happens = (acknowledged past e (parts_after past happens.1) happens.0, commits_acknowledged past happens.1)

@@ -1,5 +1,5 @@
 -- What is known of an agent's uploads, by what was sent and acknowledged, it keeps in all that it does, and it asks a commit only of enough.
-use Rattle.std.proofs.Common.{◌≡◌, ◌≢◌, ℕ, ◌+◌, ◌<◌, ◌≤◌, List, [], ◌∷◌, ◌++◌, length, map, nat_lt, Bool, true, false, cond, ◌&&◌, ◌||◌, not, refl, sym, ap, ap₂, ◌∙◌, subst, Option, Some, None, leb-true, eq-eqb, true≢false, nat_le, Contains}
+use Rattle.std.proofs.Common.{◌≡◌, ◌≢◌, ℕ, ◌+◌, ◌<◌, ◌≤◌, List, [], ◌∷◌, ◌++◌, length, map, nat_lt, Bool, true, false, cond, ◌&&◌, ◌||◌, not, refl, sym, ap₂, ◌∙◌, subst, Option, Some, None, leb-true, eq-eqb, true≢false, nat_le, Contains}
 use Rattle.std.specs.Prelude.{◌==◌}
 use Rattle.std.proofs.lemmas.Bool.{and_parts, eqb-true}
 use Rattle.scfs_base.specs.declared.naming.RequestNo.{RequestNo}
@@ -24,8 +24,8 @@ use Rattle.scfs_model.specs.Closes.{with_storing, asks_puts}
 use Rattle.scfs_model.specs.Reactions.{next_begun}
 use Rattle.scfs_model.specs.Layers.{Row, Version, rows, row_of}
 use Rattle.scfs_laws.specs.Acknowledged.{put_of}
-use Rattle.scfs_laws.proofs.NewestLists.{Each, Pairs, each-map, each-append, each-front, each-back, each-inside}
-use Rattle.scfs_laws.proofs.Moves.{Known, IsOther, Moves, each-below, next_begins}
+use Rattle.scfs_laws.proofs.Lists.{Each, Pairs, each-map, each-append, each-front, each-back, each-inside, same_number}
+use Rattle.scfs_laws.proofs.Moves.{Known, IsCommon, Moves, each-below, next_begins}
 
 abbrev pub Differ : List ℕ → Type 0
 Differ ns = Pairs (λ m n. m ≢ n) ns
@@ -60,14 +60,6 @@ differ_put n [] new others = (tt, tt)
 differ_put n (m ∷ ms) new others =
     differ_by (nat_lt n m) n m ms (put_by_number n ms) new others.0 others.1
     (each_put (λ k. m ≢ k) n ms (λ e. new.0 (sym e)) others.0) (differ_put n ms new.1 others.1)
-
-same_number : (r q : RequestNo) → same_request r q ≡ true → r ≡ q
-same_number r q same =
-    let both = and_parts ((r.agent == q.agent) && (r.incarnation == q.incarnation)) (r.number == q.number) same in
-    let first = and_parts (r.agent == q.agent) (r.incarnation == q.incarnation) both.0 in
-    ap (λ a. record { agent = a; incarnation = r.incarnation; number = r.number }) (eqb-true r.agent q.agent first.0)
-    ∙ ap (λ i. record { agent = q.agent; incarnation = i; number = r.number }) (eqb-true r.incarnation q.incarnation first.1)
-    ∙ ap (λ n. record { agent = q.agent; incarnation = q.incarnation; number = n }) (eqb-true r.number q.number both.1)
 
 -- an answer to one of these requests, of which this holds
 answered : (P : RequestNo → (c : ℕ) → Type 0) (asked : List Asked) (c : ℕ) (request : RequestNo) → Each (λ (x : Asked). P x.request x.cloud) asked
@@ -145,7 +137,7 @@ module _ (s : Setup) (a : ℕ) (Sends : Sent → Type 0) (Acked : (incarnation :
   abbrev pub IsRequest : Request Row → Type 0
   IsRequest q = IsStep q.number q.step
 
-  other_step : (number : RequestNo) (step : Step Row) → IsOther step → IsStep number step
+  other_step : (number : RequestNo) (step : Step Row) → IsCommon step → IsStep number step
   other_step number (On_names x) other = tt
   other_step number (On_locks x) other = tt
   other_step number (On_sessions (Open_read names h)) other = tt
@@ -252,7 +244,7 @@ module _ (s : Setup) (a : ℕ) (Sends : Sent → Type 0) (Acked : (incarnation :
           waits = λ g w free up k sent. (up, k, tt);
           says_plain = λ g x plain up k sent. (up, k, tt);
           asks = λ g step other up k sent. (up, k, (other_step (request_no a g.incarnation (g.requests + 1)) step other, tt));
-          makes = λ g names up k sent. (up, k, (tt, tt));
+          makes = λ g path names know up k sent. (up, k, (tt, tt));
           writes = λ g h offset new y know ok up k sent. (up, k, tt);
           truncates = λ g h size y ok up k sent. (up, k, tt);
           ends = λ g h up k sent. (up, k, tt);

@@ -1,5 +1,5 @@
 -- A close that was completed had its session's lock, alone on the file since its locked line, and found the file at the version before.
-use Rattle.std.proofs.Common.{◌≡◌, ◌⊎◌, inl, inr, ℕ, ◌+◌, ◌-◌, List, [], ◌∷◌, true, ◌&&◌, nat_lt, refl, sym, ap, subst, Some, Contains, arith, eqb, slice_get}
+use Rattle.std.proofs.Common.{◌≡◌, ◌⊎◌, inl, inr, ℕ, ◌+◌, ◌-◌, List, [], ◌∷◌, Bool, true, ◌&&◌, nat_lt, refl, sym, ap, ◌∙◌, subst, Some, Contains, arith, eqb, slice_get}
 use Rattle.std.proofs.lemmas.Bool.{and_parts, eqb-true}
 use Rattle.std.proofs.lemmas.Bool.Decides.{nat_tests}
 use Rattle.scfs_base.specs.declared.naming.FileId.{FileId}
@@ -13,23 +13,21 @@ use Rattle.scfs_model.specs.Names.{same_file}
 use Rattle.scfs_model.specs.Format.{Setup}
 use Rattle.scfs_model.specs.History.{Entry, History}
 use Rattle.scfs_model.specs.Versions.{Versions}
-use Rattle.scfs_model.specs.Given.{Given, given_of}
-use Rattle.scfs_model.specs.Tree.{Node, Lock, Tree, live, node_at, is_lock_by, session_lock}
-use Rattle.scfs_model.specs.NameSteps.{name_outcome}
-use Rattle.scfs_model.specs.LockSteps.{lock_outcome}
+use Rattle.scfs_model.specs.Given.{given_of}
+use Rattle.scfs_model.specs.Tree.{Lock, Tree, live, node_at, is_lock_by}
 use Rattle.scfs_model.specs.SessionSteps.{Session_step, Open_write, Commit, new_lock, session_after, session_line}
 use Rattle.scfs_model.specs.Steps.{Step, On_names, On_locks, On_sessions, after_ok, line_of, served, served_line}
-use Rattle.scfs_model.specs.Agents.{Request, Input, Tells, Hears}
+use Rattle.scfs_model.specs.Agents.{Request}
 use Rattle.scfs_model.specs.Events.{Step_served, Space_has, place_of}
-use Rattle.scfs_model.specs.States.{Seat, State, comes, sum_of}
+use Rattle.scfs_model.specs.States.{Seat, State}
 use Rattle.scfs_model.specs.Runs.{state_after, effect_after, Follows}
 use Rattle.scfs_laws.specs.TreeLaws.{CompletionKeeps}
-use Rattle.scfs_laws.specs.Fences.{Serves, live_locks, IsLocked, HasSince, CommitsAreFenced}
-use Rattle.scfs_laws.proofs.NewestLists.{Each, eqb-refl, each-map, each-two, each-append, each-without, each-filter, each-fewer, each-found, each_of-contains}
+use Rattle.scfs_laws.specs.Fences.{Serves, live_locks, IsLocked, HasSince, IsFenced, CommitsAreFenced}
+use Rattle.scfs_laws.proofs.Lists.{Each, eqb-refl, each-map, each-two, each-append, each-without, each-filter, each-fewer, each-found}
 use Rattle.scfs_laws.proofs.NewestTree.{found_passes}
-use Rattle.scfs_laws.proofs.NewestLines.{IsNoCommit, idle_no_commit, comes_no_commit, names_commit_nothing, locks_commit_nothing}
-use Rattle.scfs_laws.proofs.Ways.{IsIdle, own_input, of_event}
+use Rattle.scfs_laws.proofs.Ways.{of_event}
 use Rattle.scfs_laws.proofs.NamesSteps.{session_cases}
+use Rattle.scfs_laws.proofs.Commits.{committed}
 use Rattle.scfs_laws.proofs.NamesLocks.{pairs_alone, live_pairs, locks_cases}
 
 space_event : (event : Event) (a : ℕ) → place_of event ≡ Space_has a Step_served → event ≡ events.Space a
@@ -151,78 +149,26 @@ module _ {V : Type 0} (s : Setup) (vs : Versions V) (keeps : CompletionKeeps vs)
       (live_locks s vs (e ∷ past)) (pairs_alone _ (live_pairs s vs (e ∷ past))) (since_entry past e h follows.0)
 
   -- each committed line
-
-  abbrev LineFenced : History → Entry → Line → Type 0
-  LineFenced past e (lines.Committed request file number) =
-      (session : ℕ) × (v : V) × (n : Node) × Serves (state_after s vs past) e request (Commit session v) × HasSince s vs past request file session
-      × (node_at (state_after s vs past).tree.nodes file (number - 1) ≡ Some n)
-  LineFenced past e other = Unit {0}
-
-  others_fenced : (past : History) (e : Entry) (l : Line) → IsNoCommit l → LineFenced past e l
-  others_fenced past e (lines.Committed request file number) none = absurd none
-  others_fenced past e _ none = tt
-
-  module _ (past : History) (e : Entry) (h : Each (Since past) (live_locks s vs past)) (a : ℕ) (seat : Seat V) (request : RequestNo)
-      (rest : List (Request V)) (found : slice_get (state_after s vs past).seats a ≡ Some seat) (is : place_of e.event ≡ Space_has a Step_served) where
-    abbrev clock : ℕ
-    clock = (state_after s vs past).clock
-
-    abbrev tree : Tree V
-    tree = live clock (state_after s vs past).tree
-
-    -- the lock that a close finds was its session's since
-    held_since : (session : ℕ) (v : V) (l : Lock) → session_lock tree.locks request (vs.file v) session ≡ Some l
-        → HasSince s vs past request (vs.file v) session
-    held_since session v l held =
-        let owner = owner_of l request (vs.file v) session (found_passes (is_lock_by request (vs.file v) session) tree.locks l held) in
-        let since : Since past l = each-found (Since past) (is_lock_by request (vs.file v) session) tree.locks l h held in
-        subst (HasSince s vs past request (vs.file v)) owner.3
-        (subst (λ file. HasSince s vs past request file l.session) owner.0 (since request owner.1 owner.2))
-
-    fenced_step : (step : Step V) → seat.asked ≡ (record { number = request; step = step }) ∷ rest
-        → LineFenced past e (served_line vs request (served vs tree clock s.header.lease request step).outcome)
-    fenced_step (On_names x) next = others_fenced past e _ (names_commit_nothing request (name_outcome tree.nodes x))
-    fenced_step (On_locks x) next = others_fenced past e _ (locks_commit_nothing request (lock_outcome tree.locks (clock + s.header.lease) request x))
-    fenced_step (On_sessions x) next =
-        session_cases vs tree clock (clock + s.header.lease) request
-        (λ y r. seat.asked ≡ (record { number = request; step = On_sessions y }) ∷ rest → LineFenced past e (line_of request (session_line vs) r))
-        (λ y why next. tt)
-        (record {
-          sees = λ names session n there next. tt;
-          locks = λ names session n there free next. tt;
-          completes = λ session v l n held there next.
-              (session, v, n, serves past e h a seat request rest found is (Commit session v) next, rw (keeps.file v clock) (held_since session v l held), rw (keeps.file v clock, keeps.number v clock) there);
-        })
-        x next
-
-  lines_fenced : (past : History) (e : Entry) → Each (Since past) (live_locks s vs past) → e.lines ≡ (effect_after s vs past e).lines
-      → Each (LineFenced past e) e.lines
-  lines_fenced past e h same =
+  fenced : (past : History) (e : Entry) → Each (Since past) (live_locks s vs past) → e.lines ≡ (effect_after s vs past e).lines → IsFenced s vs past e
+  fenced past e h same request file number inside =
       let state : State V = state_after s vs past in
-      let given : Given = given_of state.clock e in
-      let quiet : (ls : List Line) → Each IsNoCommit ls → Each (LineFenced past e) ls = each-map IsNoCommit (LineFenced past e) (others_fenced past e) in
-      let come : (a : ℕ) (before : List Line) (input : Input V) (seat : Seat V) → Each IsIdle before
-      → Each (LineFenced past e) (comes s vs state a given before input seat).lines =
-      λ a before input seat idle. quiet (comes s vs state a given before input seat).lines (comes_no_commit s vs state a given before input seat idle) in
-      subst (Each (LineFenced past e)) (sym same)
-      (of_event s vs state given e.message (λ x. Each (LineFenced past e) x.lines) (place_of e.event)
-      (record {
-        nothing = λ shown idle. quiet shown (each-map IsIdle IsNoCommit idle_no_commit shown idle);
-        later = λ ticks. tt;
-        gone = λ a seat request found. (tt, tt);
-        missed = λ a seat oldest rest found is. (tt, tt);
-        own = λ a seat x found place up. come a [] (own_input x) seat tt;
-        hears = λ c request answer seat found place message up.
-            come request.agent (lines.Gave c request (sum_of s answer) ∷ []) (Hears c request answer) seat (tt, tt);
-        told = λ a seat oldest rest found is up. come a [] (Tells oldest.number oldest.outcome) (record seat { replied = rest }) tt;
-        serve = λ a seat oldest rest found is place. (fenced_step past e h a seat oldest.number rest found place oldest.step is, tt);
-        postpone = λ a seat oldest rest found is. tt;
-      }))
+      let k = committed s vs state (given_of state.clock e) e.message (place_of e.event) request file number
+      (subst (λ ls. Contains ls (lines.Committed request file number)) same inside) in
+      let of_file : vs.file k.version ≡ file = sym (keeps.file k.version state.clock) ∙ k.of_file in
+      let of_number : vs.number k.version ≡ number = sym (keeps.number k.version state.clock) ∙ k.of_number in
+      let p : Lock → Bool = is_lock_by request (vs.file k.version) k.session in
+      let owner = owner_of k.lock request (vs.file k.version) k.session (found_passes p (live_locks s vs past) k.lock k.held) in
+      let since : Since past k.lock = each-found (Since past) p (live_locks s vs past) k.lock h k.held in (
+        k.session,
+        k.version,
+        k.node,
+        serves past e h k.a k.seat request k.rest k.found k.is (Commit k.session k.version) k.asked,
+        subst (HasSince s vs past request file) owner.3
+            (subst (λ f. HasSince s vs past request f k.lock.session) (owner.0 ∙ of_file) (since request owner.1 owner.2)),
+        subst (λ n. node_at state.tree.nodes file (n - 1) ≡ Some k.node) of_number
+            (subst (λ f. node_at state.tree.nodes f (vs.number k.version - 1) ≡ Some k.node) of_file k.at),
+      )
 
   pub commits_fenced : (past : History) → Follows s vs past → CommitsAreFenced s vs past
   commits_fenced [] follows = tt
-  commits_fenced (e ∷ past) follows = (
-    λ request file number inside. each_of-contains (LineFenced past e) e.lines (lines.Committed request file number)
-        (lines_fenced past e (each_since past follows.1) follows.0) inside,
-    commits_fenced past follows.1,
-  )
+  commits_fenced (e ∷ past) follows = (fenced past e (each_since past follows.1) follows.0, commits_fenced past follows.1)

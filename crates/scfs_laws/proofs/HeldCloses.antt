@@ -19,7 +19,7 @@ use Rattle.scfs_model.specs.Closes.{with_storing, stores, upload_hears, upload_t
 use Rattle.scfs_model.specs.Layers.{Row}
 use Rattle.scfs_model.specs.States.{Reply}
 use Rattle.scfs_laws.specs.Held.{Version_seen, Agent_seen}
-use Rattle.scfs_laws.proofs.NewestLists.{length-put}
+use Rattle.scfs_laws.proofs.Lists.{length-put}
 use Rattle.scfs_laws.proofs.HeldSeats.{latest, IsRow, busy_asked, busy_replied, Seated}
 use Rattle.scfs_laws.proofs.HeldSteps.{none_asked, all_idle, any_change, loose_change}
 use Rattle.scfs_laws.proofs.HeldLines.{Does}

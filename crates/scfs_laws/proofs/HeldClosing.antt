@@ -24,7 +24,7 @@ use Rattle.scfs_model.specs.Layers.{Row, rows}
 use Rattle.scfs_model.specs.Reactions.{next_begun, reacted}
 use Rattle.scfs_model.specs.States.{Reply, request_line}
 use Rattle.scfs_laws.specs.Held.{Close_seen, Version_seen, Agent_seen, is_answer, with_close}
-use Rattle.scfs_laws.proofs.NewestLists.{eqb-apart}
+use Rattle.scfs_laws.proofs.Lists.{eqb-apart}
 use Rattle.scfs_laws.proofs.HeldSessions.{held_ended, held_found}
 use Rattle.scfs_laws.proofs.HeldSeats.{latest, IsRow, Between, Seated}
 use Rattle.scfs_laws.proofs.HeldSteps.{all_idle, any_change}

@@ -18,7 +18,8 @@ use Rattle.scfs_model.specs.Layers.{Row, rows}
 use Rattle.scfs_model.specs.Reactions.{begun, next_begun, responded, reacted}
 use Rattle.scfs_model.specs.States.{Reply, Seat}
 use Rattle.scfs_laws.specs.Held.{Close_seen, Version_seen, Agent_seen, with_reading, with_get}
-use Rattle.scfs_laws.proofs.HeldSeats.{latest, Each, IsEmpty, Waits, Closes, Uploads, Fits, busy, busy_asked, busy_replied, Seated}
+use Rattle.scfs_laws.proofs.Lists.{Each}
+use Rattle.scfs_laws.proofs.HeldSeats.{latest, IsEmpty, Waits, Closes, Uploads, Fits, busy, busy_asked, busy_replied, Seated}
 use Rattle.scfs_laws.proofs.HeldSteps.{none_asked, one_asked}
 use Rattle.scfs_laws.proofs.HeldLines.{after_sent, IsOwn, after_doing, Does}
 

@@ -14,7 +14,7 @@ use Rattle.scfs_model.specs.Layers.{Row}
 use Rattle.scfs_model.specs.States.{Reply, Seat, is_there}
 use Rattle.scfs_laws.specs.Held.{Version_seen, Agent_seen}
 use Rattle.scfs_laws.proofs.HeldSeats.{Seated}
-use Rattle.scfs_laws.proofs.HeldSteps.{each_weaker}
+use Rattle.scfs_laws.proofs.Lists.{each-map}
 use Rattle.scfs_laws.proofs.HeldLines.{after_body, after_sent, after_saying, after_doing}
 use Rattle.scfs_laws.proofs.HeldMixed.{Mixed, StrayRequest, HereRequest, StrayReply, HereReply, Stands, more_there, mixed_map, row_with}
 use Rattle.scfs_laws.proofs.HeldStays.{IsOf, Stays}
@@ -88,7 +88,7 @@ module _ (s : Setup) (a : ℕ) (versions : List Version_seen) (y0 z : Agent_seen
         asks = more_there (StrayRequest s a z r.agent) (HereRequest s a z r.agent) mine.asked seat.asked r.steps
             (mixed_map (StrayRequest s a y0 seat.agent) (HereRequest s a y0 seat.agent) (StrayRequest s a z r.agent) (HereRequest s a z r.agent)
             stray_on (λ q k. same_there q.number ∙ k) mine.asked seat.asked mine.asks)
-            (each_weaker (IsOf s a seat.agent.incarnation) (HereRequest s a z r.agent) r.steps new_there stays.2);
+            (each-map (IsOf s a seat.agent.incarnation) (HereRequest s a z r.agent) new_there r.steps stays.2);
         replies = mixed_map (StrayReply s a y0 seat.agent) (HereReply s a y0 seat.agent) (StrayReply s a z r.agent) (HereReply s a z r.agent)
             (λ q k. (same_there q.number ∙ k.0, omega (arith, k.1, stays.1))) (λ q k. same_there q.number ∙ k) replied all replies;
         down = λ e. absurd (true≢false (sym stays.0 ∙ e));

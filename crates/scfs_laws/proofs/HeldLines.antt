@@ -17,7 +17,8 @@ use Rattle.scfs_model.specs.Agents.{Request, Sent, Reaction}
 use Rattle.scfs_model.specs.Layers.{Row}
 use Rattle.scfs_model.specs.States.{Reply, request_line}
 use Rattle.scfs_laws.specs.Held.{Version_seen, Agent_seen, Seen, set_at, of_agent, with_bytes, with_reading, with_incarnation, reading_of, with_get, bytes_opened, edited, seen_line}
-use Rattle.scfs_laws.proofs.HeldSeats.{Each, Seated}
+use Rattle.scfs_laws.proofs.Lists.{Each}
+use Rattle.scfs_laws.proofs.HeldSeats.{Seated}
 
 -- what is seen is this now of agent a, and of all others as it was
 pub record Becomes (a : ℕ) (x later : Seen) (y : Agent_seen) : Type 0 where

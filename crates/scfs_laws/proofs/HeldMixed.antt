@@ -10,7 +10,8 @@ use Rattle.scfs_model.specs.Agents.{Waiting, Closed, Request, Agent}
 use Rattle.scfs_model.specs.Layers.{Row}
 use Rattle.scfs_model.specs.States.{Reply, Seat, is_there}
 use Rattle.scfs_laws.specs.Held.{Version_seen, Agent_seen}
-use Rattle.scfs_laws.proofs.HeldSeats.{Each, IsRow, latest, Fits, OutcomeFits, step_of, Seated}
+use Rattle.scfs_laws.proofs.Lists.{Each}
+use Rattle.scfs_laws.proofs.HeldSeats.{IsRow, latest, Fits, OutcomeFits, step_of, Seated}
 use Rattle.scfs_laws.proofs.HeldDoing.{seat_of}
 use Rattle.scfs_laws.proofs.HeldVersions.{seated_more, served_seated}
 

@@ -23,12 +23,10 @@ use Rattle.scfs_model.specs.States.{Reply, Seat, State, Effect, request_line, le
 use Rattle.scfs_model.specs.Events.{Call_comes}
 use Rattle.scfs_model.specs.Lives.{is_up}
 use Rattle.scfs_laws.specs.Held.{Close_seen, Agent_seen, Seen, of_agent, seen_line, with_close, seen_event}
-use Rattle.scfs_laws.proofs.NewestLists.{eqb-comm}
+use Rattle.scfs_laws.proofs.Lists.{eqb-comm, Each, each-append}
 use Rattle.scfs_laws.proofs.HeldStays.{IsUsual, reacted_stays}
 use Rattle.scfs_laws.proofs.HeldMixed.{Mixed, StrayReply, HereReply, Stands}
 use Rattle.scfs_laws.proofs.HeldKeeping.{doing_close, reacted_stands}
-use Rattle.scfs_laws.proofs.HeldSeats.{Each}
-use Rattle.scfs_laws.proofs.HeldSteps.{each_append}
 use Rattle.scfs_laws.proofs.HeldLines.{Becomes, of_agent_becomes, nothing_becomes, then_becomes, after_doing, IsSaid, IsOwn, lines_become, Does}
 use Rattle.scfs_laws.proofs.HeldDoing.{reacted_does}
 use Rattle.scfs_laws.proofs.HeldCalls.{IsNoClose, call_does}
@@ -98,8 +96,8 @@ module _ (s : Setup) (event : Event) (message : Option Message) (bytes : ℕ →
                 | inr k ↦ subst (λ z. Stands s x.versions b z m) (sym (becomes.others b k.0)) (is.seats b m k.1)
               ]);
         };
-        shown = each_append (IsShown event bytes) (before ++ told) sent
-            (each_append (IsShown event bytes) before told shown (says_shown event bytes a y r.says same said))
+        shown = each-append (IsShown event bytes) (before ++ told) sent
+            (each-append (IsShown event bytes) before told shown (says_shown event bytes a y r.says same said))
             (sent_shown s event bytes r.sent);
       }
 

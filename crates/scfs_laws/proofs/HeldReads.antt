@@ -23,8 +23,8 @@ use Rattle.scfs_model.specs.Layers.{Row, rows}
 use Rattle.scfs_model.specs.Runs.{actual, effect_after, Happens}
 use Rattle.scfs_model.specs.States.{Reply, Seat, State, Effect, first_seat, first_state, sum_of, is_there, leaving, with_seat, at_seat, did, comes, comes_if, comes_back, at_agent, serves, postpones, tells, gives, answers_by, moves, effect}
 use Rattle.scfs_laws.specs.Held.{Close_seen, Agent_seen, Seen, nothing_seen, of_agent, with_reading, with_incarnation, after_answer, seen_line, with_close, seen_event, seen, ShowsHeld, ReadsHeld}
-use Rattle.scfs_laws.proofs.NewestLists.{eqb-apart}
-use Rattle.scfs_laws.proofs.HeldSeats.{Each, latest, Waits, RequestFits, ReplyFits, Seated}
+use Rattle.scfs_laws.proofs.Lists.{eqb-apart, Each}
+use Rattle.scfs_laws.proofs.HeldSeats.{latest, Waits, RequestFits, ReplyFits, Seated}
 use Rattle.scfs_laws.proofs.HeldLines.{set_there, of_agent_becomes, nothing_becomes, after_doing, Does}
 use Rattle.scfs_laws.proofs.HeldDoing.{seat_of, followed_silent, reacted_does}
 use Rattle.scfs_laws.proofs.HeldTold.{tells_does}

@@ -12,12 +12,8 @@ use Rattle.scfs_model.specs.Layers.{Row}
 use Rattle.scfs_model.specs.Agents.{Waiting, For_step, For_clouds, For_close, Upload, Closed, Request}
 use Rattle.scfs_model.specs.States.{Reply, Seat}
 use Rattle.scfs_laws.specs.Held.{Close_seen, Version_seen, Agent_seen, no_close, is_version}
+use Rattle.scfs_laws.proofs.Lists.{Each}
 use Rattle.scfs_laws.proofs.HeldSessions.{AreHeld}
-
--- each item of a list
-abbrev pub Each : {X : Type 0} → (X → Type 0) → List X → Type 0
-Each P [] = Unit {0}
-Each P (x ∷ xs) = P x × Each P xs
 
 abbrev pub IsEmpty : {X : Type 0} → List X → Type 0
 IsEmpty [] = Unit {0}

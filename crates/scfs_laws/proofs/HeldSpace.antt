@@ -19,8 +19,9 @@ use Rattle.scfs_model.specs.Layers.{Row, rows}
 use Rattle.scfs_model.specs.Agents.{Agent, Request}
 use Rattle.scfs_model.specs.States.{Reply, Seat, State, Effect, leaving, with_seat, serves, postpones}
 use Rattle.scfs_laws.specs.Held.{Version_seen, Agent_seen, Seen, seen_line}
-use Rattle.scfs_laws.proofs.HeldSeats.{Each, IsRow, latest, OutcomeFits, RequestFits, step_of, Seated}
-use Rattle.scfs_laws.proofs.HeldSteps.{each_append, asked_append}
+use Rattle.scfs_laws.proofs.Lists.{Each, each-append}
+use Rattle.scfs_laws.proofs.HeldSeats.{IsRow, latest, OutcomeFits, RequestFits, step_of, Seated}
+use Rattle.scfs_laws.proofs.HeldSteps.{asked_append}
 use Rattle.scfs_laws.proofs.HeldDoing.{seat_of}
 use Rattle.scfs_laws.proofs.HeldVersions.{Tied, tied_append, tied_found}
 use Rattle.scfs_laws.proofs.HeldMixed.{StrayRequest, HereRequest, CommitRow, Stands, sees_more, After, after_of, one_stray, more_there}
@@ -241,7 +242,7 @@ module _ (s : Setup) (event : Event) (message : Option Message) (bytes : ℕ →
         upload = mine.upload;
         waits = mine.waits;
         steps = record {
-          asks = each_append (RequestFits s a x.versions (latest (x.agents a)) agent.waiting agent.closed) rest (oldest ∷ []) mine.steps.asks.1
+          asks = each-append (RequestFits s a x.versions (latest (x.agents a)) agent.waiting agent.closed) rest (oldest ∷ []) mine.steps.asks.1
               (mine.steps.asks.0, tt);
           replies = mine.steps.replies;
           alone = omega (arith, few, sum);

@@ -6,7 +6,7 @@ use Rattle.scfs_model.specs.Lives.{is_up}
 use Rattle.scfs_model.specs.Agents.{Request, Agent, Input, Calls, Tells, Hears, Turns, Crashes, Starts, Reaction}
 use Rattle.scfs_model.specs.Reactions.{reacted}
 use Rattle.scfs_model.specs.Layers.{Row, rows}
-use Rattle.scfs_laws.proofs.NewestLists.{Each, each-map, each-append}
+use Rattle.scfs_laws.proofs.Lists.{Each, each-map, each-append}
 use Rattle.scfs_laws.proofs.Moves.{Known, IsInput, any_reply, has_up, Moves, reacts}
 
 module _ (s : Setup) (a : ℕ) where
@@ -53,7 +53,7 @@ module _ (s : Setup) (a : ℕ) where
         waits = λ g w free up. (up, refl, tt);
         says_plain = λ g x plain up. (up, refl, tt);
         asks = λ g step other up. (up, refl, (refl, tt));
-        makes = λ g names up. (up, refl, (refl, tt));
+        makes = λ g path names k up. (up, refl, (refl, tt));
         writes = λ g h offset new y k ok up. (up, refl, tt);
         truncates = λ g h size y ok up. (up, refl, tt);
         ends = λ g h up. (up, refl, tt);

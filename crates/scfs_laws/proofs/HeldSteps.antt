@@ -7,15 +7,8 @@ use Rattle.scfs_model.specs.Layers.{Row}
 use Rattle.scfs_model.specs.Agents.{Waiting, Closed, Request}
 use Rattle.scfs_model.specs.States.{Reply}
 use Rattle.scfs_laws.specs.Held.{Close_seen, Version_seen}
-use Rattle.scfs_laws.proofs.HeldSeats.{Each, IsStepping, IsCommitting, SessionFits, Fits, busy, busy_asked, step_of, busy_replied, RequestFits, ReplyFits, Between}
-
-pub each_append : {X : Type 0} (P : X → Type 0) (xs ys : List X) → Each P xs → Each P ys → Each P (xs ++ ys)
-each_append P [] ys h k = k
-each_append P (x ∷ xs) ys h k = (h.0, each_append P xs ys h.1 k)
-
-pub each_weaker : {X : Type 0} (P Q : X → Type 0) (xs : List X) → ((x : X) → P x → Q x) → Each P xs → Each Q xs
-each_weaker P Q [] so h = tt
-each_weaker P Q (x ∷ xs) so h = (so x h.0, each_weaker P Q xs so h.1)
+use Rattle.scfs_laws.proofs.Lists.{Each, each-map, each-append}
+use Rattle.scfs_laws.proofs.HeldSeats.{IsStepping, IsCommitting, SessionFits, Fits, busy, busy_asked, step_of, busy_replied, RequestFits, ReplyFits, Between}
 
 pub asked_append : (xs ys : List (Request Row)) → busy_asked (xs ++ ys) ≡ busy_asked xs + busy_asked ys
 asked_append [] ys = omega arith
@@ -115,10 +108,10 @@ module _ (s : Setup) (a : ℕ) (versions : List Version_seen) (close next : Clos
       → (IsCommitting s waiting closed → IsCommitting s later after) → Between s a versions close waiting closed asked replied
       → Between s a versions close later after asked replied
   loose_change asked replied so also is = record {
-    asks = each_weaker (RequestFits s a versions close waiting closed) (RequestFits s a versions close later after) asked
-        (λ q h. (h.0, loosened s close next waiting later closed after so also q.step h.1)) is.asks;
-    replies = each_weaker (ReplyFits s a versions close waiting closed) (ReplyFits s a versions close later after) replied
-        (λ r h. (h.0, loosened s close next waiting later closed after so also (step_of r.outcome) h.1, h.2)) is.replies;
+    asks = each-map (RequestFits s a versions close waiting closed) (RequestFits s a versions close later after)
+        (λ q h. (h.0, loosened s close next waiting later closed after so also q.step h.1)) asked is.asks;
+    replies = each-map (ReplyFits s a versions close waiting closed) (ReplyFits s a versions close later after)
+        (λ r h. (h.0, loosened s close next waiting later closed after so also (step_of r.outcome) h.1, h.2)) replied is.replies;
     alone = is.alone;
   }
 
@@ -130,7 +123,7 @@ module _ (s : Setup) (a : ℕ) (versions : List Version_seen) (close : Close_see
   one_asked asked replied q few fits is =
       let sum = asked_append asked (q ∷ []) in
       record {
-        asks = each_append (RequestFits s a versions close waiting closed) asked (q ∷ []) is.asks (fits, tt);
+        asks = each-append (RequestFits s a versions close waiting closed) asked (q ∷ []) is.asks (fits, tt);
         replies = is.replies;
         alone = omega (arith, sum, few);
       }

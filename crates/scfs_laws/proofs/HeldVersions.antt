@@ -13,7 +13,8 @@ use Rattle.scfs_model.specs.Agents.{Agent, Request}
 use Rattle.scfs_model.specs.States.{Reply, Seat}
 use Rattle.scfs_laws.specs.Held.{Version_seen, Agent_seen, is_version}
 use Rattle.scfs_laws.proofs.HeldSeats.{latest, IsRow, IsSeen, ResultFits, OutcomeFits, ReplyFits, Fits, busy, step_of, Seated}
-use Rattle.scfs_laws.proofs.HeldSteps.{each_append, each_weaker, replied_append}
+use Rattle.scfs_laws.proofs.Lists.{each-append, each-map}
+use Rattle.scfs_laws.proofs.HeldSteps.{replied_append}
 use Rattle.scfs_laws.proofs.HeldDoing.{seat_of}
 
 -- a version that is seen is the row of one
@@ -99,9 +100,9 @@ module _ (s : Setup) where
     waits = is.waits;
     steps = record {
       asks = is.steps.asks;
-      replies = each_weaker (ReplyFits s a ws (latest y) m.agent.waiting m.agent.closed)
+      replies = each-map (ReplyFits s a ws (latest y) m.agent.waiting m.agent.closed)
           (ReplyFits s a (ws ++ more) (latest y) m.agent.waiting m.agent.closed)
-          m.replied (λ r h. (h.0, h.1, outcome_more ws more r.outcome h.2)) is.steps.replies;
+          (λ r h. (h.0, h.1, outcome_more ws more r.outcome h.2)) m.replied is.steps.replies;
       alone = is.steps.alone;
     };
   }
@@ -125,7 +126,7 @@ module _ (s : Setup) where
         waits = is.waits;
         steps = record {
           asks = is.steps.asks.1;
-          replies = each_append (ReplyFits s a ws (latest y) agent.waiting agent.closed) replied (reply ∷ []) is.steps.replies
+          replies = each-append (ReplyFits s a ws (latest y) agent.waiting agent.closed) replied (reply ∷ []) is.steps.replies
               ((first.0, subst (Fits s (latest y) agent.waiting agent.closed) (sym same) first.1, fits), tt);
           alone = omega (arith, sum, few, as_busy);
         };

@@ -1,3 +1,4 @@
+pub mod Lists
 pub mod ListMaps
 pub mod AgentMaps
 pub mod LeaseMaps
@@ -10,11 +11,10 @@ pub mod ToldMaps
 pub mod ReactionMaps
 pub mod StateMaps
 pub mod TwoLayers
-pub mod SoundLists
 pub mod SoundKept
-pub mod SoundCalls
-pub mod SoundOpens
-pub mod SoundReactions
+pub mod SoundContents
+pub mod SoundPieces
+pub mod SoundMoves
 pub mod SoundStates
 pub mod SoundAnswers
 pub mod SoundUnit
@@ -41,28 +41,25 @@ mod HeldPlayed
 pub mod Moves
 pub mod Ways
 pub mod Seats
+mod Commits
 pub mod AckedMoves
 pub mod AckedLaw
-mod NewestLists
-mod NewestDraws
-mod NewestKept
-mod NewestSteady
-mod NewestWalk
+mod DrawnMoves
+mod DrawnServes
+mod DrawnSeats
 mod NamesWalks
 mod NamesEvents
 mod NamesSteps
 mod NamesApart
 mod NamesLocks
 mod NewestLines
+mod NewestMoves
+mod NewestShown
 mod Fenced
+mod FencedPlayed
+mod AckedPlayed
 mod NewestVersions
 mod NewestTree
 mod NewestServes
-mod NewestSeats
-mod NewestSaid
-mod NewestComes
-mod NewestServed
-mod NewestPlaces
-mod NewestStates
 mod NewestOpens
 mod NewestRuns

@@ -40,7 +40,7 @@ use Rattle.scfs_model.specs.Closes.{goes_on, with_storing, asks_puts, falls_shor
 use Rattle.scfs_model.specs.Calls.{any_names, path_names, with_session, unless_refused, calls_step, opens, close, called, call_of}
 use Rattle.scfs_model.specs.Told.{is_pending, untold, told_locks, told_open, told_closed, told_commit, told}
 use Rattle.scfs_model.specs.Reactions.{next_life, idle, to_open, to_closed, to_upload, to_work, crashes, responded, begun, next_begun, reacted}
-use Rattle.scfs_laws.proofs.NewestLists.{Each, each-map, each-filter, length-put}
+use Rattle.scfs_laws.proofs.Lists.{Each, each-map, each-filter, length-put}
 
 -- what is known of what comes to an agent: of a call, of a sight that it is told, of an answer of a cloud; and where it has a turn, goes
 -- down and comes up
@@ -81,6 +81,15 @@ module _ {V : Type 0} (known : Known V) where
   IsInput Crashes = known.crash
   IsInput Starts = known.start
 
+pub reply_on : {V : Type 0} (known more : Known V) → ((request : RequestNo) (sight : Sight V) → known.sight request sight → more.sight request sight)
+    → (request : RequestNo) (o : Outcome V) → IsReply known request o → IsReply more request o
+reply_on known more on request (Of_names x r) k = tt
+reply_on known more on request (Of_locks x r) k = tt
+reply_on known more on request (Of_sessions x (Ok (Sees sight))) k = on request sight k
+reply_on known more on request (Of_sessions x (Ok (Locks sight l))) k = on request sight k
+reply_on known more on request (Of_sessions x (Ok (Completes h v n))) k = tt
+reply_on known more on request (Of_sessions x (Err why)) k = tt
+
 -- whether an agent is up that has this input
 abbrev pub has_up : {V : Type 0} → Input V → Bool
 has_up (Calls call) = true
@@ -98,13 +107,13 @@ IsPlain (says.Started incarnation) = ⊥
 IsPlain other = Unit {0}
 
 -- a step that makes no file and completes no close
-abbrev pub IsOther : {V : Type 0} → Step V → Type 0
-IsOther (On_names (Make names id)) = ⊥
-IsOther (On_names (Look names)) = Unit {0}
-IsOther (On_locks x) = Unit {0}
-IsOther (On_sessions (Open_read names h)) = Unit {0}
-IsOther (On_sessions (Open_write names h)) = Unit {0}
-IsOther (On_sessions (Commit h v)) = ⊥
+abbrev pub IsCommon : {V : Type 0} → Step V → Type 0
+IsCommon (On_names (Make names id)) = ⊥
+IsCommon (On_names (Look names)) = Unit {0}
+IsCommon (On_locks x) = Unit {0}
+IsCommon (On_sessions (Open_read names h)) = Unit {0}
+IsCommon (On_sessions (Open_write names h)) = Unit {0}
+IsCommon (On_sessions (Commit h v)) = ⊥
 
 module _ {V : Type 0} where
   -- an agent that waits for this
@@ -142,8 +151,8 @@ module _ {V : Type 0} (s : Setup) (vs : Versions V) (a : ℕ) (known : Known V) 
     pub waits : (g : Agent V) (w : Option (Waiting V)) → ¬ IsReading w → P g (silent (awaiting g w))
     pub says_plain : (g : Agent V) (x : Saying) → IsPlain x → P g (saying g x)
     -- steps
-    pub asks : (g : Agent V) (step : Step V) → IsOther step → P g (asks_step a g step)
-    pub makes : (g : Agent V) (names : List (List ℕ)) →
+    pub asks : (g : Agent V) (step : Step V) → IsCommon step → P g (asks_step a g step)
+    pub makes : (g : Agent V) (path : List ℕ) (names : List (List ℕ)) → known.call (calls.Create path) →
         let count : ℕ = g.files + 1 in P g (asks_step a (record g { files = count }) (On_names (Make names (file_id a g.incarnation count))))
     -- sessions
     pub writes : (g : Agent V) (h offset : ℕ) (new : List ℕ) (y : Session) → known.call (calls.Write h offset new)
@@ -237,12 +246,12 @@ module _ {V : Type 0} (s : Setup) (vs : Versions V) (a : ℕ) (known : Known V) 
   unless g (Ok x) on each = each x refl
   unless g (Err why) on each = m.says_plain g (says.Refuses why) tt
 
-  steps : (g : Agent V) (step : Step V) → IsOther step → P g (calls_step a g step)
+  steps : (g : Agent V) (step : Step V) → IsCommon step → P g (calls_step a g step)
   steps g step other =
       after g (awaiting g (Some For_step)) _ (m.waits g (Some For_step) (λ none. none))
       (m.asks (awaiting g (Some For_step)) step other)
 
-  asks_open : (g : Agent V) (step : (session : ℕ) → Session_step V) → ((h : ℕ) → IsOther (On_sessions (step h))) → P g (opens a g step)
+  asks_open : (g : Agent V) (step : (session : ℕ) → Session_step V) → ((h : ℕ) → IsCommon (On_sessions (step h))) → P g (opens a g step)
   asks_open g step other =
       let h : ℕ = g.opens + 1 in
       let next : Agent V = record g { opens = h } in
@@ -263,7 +272,7 @@ module _ {V : Type 0} (s : Setup) (vs : Versions V) (a : ℕ) (known : Known V) 
 
   called_by : (g : Agent V) (call : Call) → known.call call → P g (called a s g call)
   called_by g (calls.Create path) k = unless g (path_names s path) _ (λ names ok.
-      after g (awaiting g (Some For_step)) _ (m.waits g (Some For_step) (λ none. none)) (m.makes (awaiting g (Some For_step)) names))
+      after g (awaiting g (Some For_step)) _ (m.waits g (Some For_step) (λ none. none)) (m.makes (awaiting g (Some For_step)) path names k))
   called_by g (calls.Stat path) k = unless g (any_names s path) _ (λ names ok. steps g (On_names (Look names)) tt)
   called_by g (calls.OpenR path) k = unless g (path_names s path) _ (λ names ok. asks_open g (Open_read names) (λ h. tt))
   called_by g (calls.OpenW path) k = unless g (path_names s path) _ (λ names ok. asks_open g (Open_write names) (λ h. tt))

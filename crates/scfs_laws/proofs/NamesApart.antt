@@ -12,9 +12,9 @@ use Rattle.scfs_model.specs.SessionSteps.{session_after, with_version}
 use Rattle.scfs_model.specs.Steps.{Step, On_names, On_locks, On_sessions, after_ok, served}
 use Rattle.scfs_model.specs.Runs.{state_after}
 use Rattle.scfs_laws.specs.TreeLaws.{has_place, NamesDiffer, CompletionKeeps}
-use Rattle.scfs_laws.proofs.NewestLists.{Each, Pairs, eqb-comm, each-map, pairs-append, pairs-without, pairs-found}
+use Rattle.scfs_laws.proofs.Lists.{Each, Pairs, eqb-comm, each-map, pairs-append, pairs-without, pairs-found}
 use Rattle.scfs_laws.proofs.NamesSteps.{make_cases, look_cases, session_cases}
-use Rattle.scfs_laws.proofs.NamesEvents.{tree_always}
+use Rattle.scfs_laws.proofs.Ways.{tree_always}
 
 -- a test that finds nothing fails at each
 fails_by : {X : Type 0} (b : Bool) (x : X) (rest : Option X) → cond b (Some x) rest ≡ None → (b ≡ false) × (rest ≡ None)

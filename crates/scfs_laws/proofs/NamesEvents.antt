@@ -13,7 +13,7 @@ use Rattle.scfs_model.specs.Agents.{Request, Input, Calls, Tells, Hears, Turns, 
 use Rattle.scfs_model.specs.Events.{At_agent, Call_comes, Turn_comes, Crash_comes, Start_comes, Place, place_of}
 use Rattle.scfs_model.specs.States.{Reply, Seat, State, Effect, sum_of, leaving, with_seat, postpones, comes, serves, at_place}
 use Rattle.scfs_model.specs.Runs.{state_after}
-use Rattle.scfs_laws.proofs.NewestLists.{Each}
+use Rattle.scfs_laws.proofs.Lists.{Each}
 use Rattle.scfs_laws.proofs.Ways.{IsIdle, own_input, of_event}
 
 -- an input that is no reply and no start
@@ -71,25 +71,3 @@ module _ {V : Type 0} (s : Setup) (vs : Versions V) (state : State V) (given : G
         serve = λ a seat oldest rest found is place. ways.serve a seat oldest rest found is;
         postpone = ways.postpone;
       })
-
--- what steps keep of the tree, each event keeps, and holds of the first tree, holds after each history
-module _ {V : Type 0} (s : Setup) (vs : Versions V) (T : Tree V → Type 0)
-    (each : (tree : Tree V) (now lease : ℕ) (request : RequestNo) (step : Step V) → T tree → T
-    (served vs (live now tree) now lease request step).tree) where
-  pub tree_always : T empty_tree → (past : History) → T (state_after s vs past).tree
-  tree_always first [] = first
-  tree_always first (e ∷ past) =
-      let state : State V = state_after s vs past in
-      of_place s vs state (given_of state.clock e) (λ x. T x.state.tree)
-      (record {
-        nothing = λ shown h. tree_always first past;
-        later = λ ticks. tree_always first past;
-        missed = λ a seat oldest rest found h. tree_always first past;
-        gone = λ a seat request found. tree_always first past;
-        come = λ a seat before input found h k. tree_always first past;
-        start = λ a seat found. tree_always first past;
-        told = λ a seat oldest rest found h. tree_always first past;
-        serve = λ a seat oldest rest found h. each state.tree state.clock s.header.lease oldest.number oldest.step (tree_always first past);
-        postpone = λ a seat oldest rest found h. tree_always first past;
-      })
-      e.message (place_of e.event)

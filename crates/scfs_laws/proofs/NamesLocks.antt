@@ -13,9 +13,9 @@ use Rattle.scfs_model.specs.SessionSteps.{session_after, new_lock}
 use Rattle.scfs_model.specs.Steps.{Step, On_names, On_locks, On_sessions, after_ok, served}
 use Rattle.scfs_model.specs.Runs.{state_after}
 use Rattle.scfs_laws.specs.TreeLaws.{LocksAlone}
-use Rattle.scfs_laws.proofs.NewestLists.{Each, Pairs, eqb-refl, eqb-comm, each-map, each-two, pairs-append, pairs-without, pairs-filter, pairs-found}
+use Rattle.scfs_laws.proofs.Lists.{Each, Pairs, eqb-refl, eqb-comm, each-map, each-two, pairs-append, pairs-without, pairs-filter, pairs-found}
 use Rattle.scfs_laws.proofs.NamesSteps.{session_cases}
-use Rattle.scfs_laws.proofs.NamesEvents.{tree_always}
+use Rattle.scfs_laws.proofs.Ways.{tree_always}
 use Rattle.scfs_laws.proofs.NamesApart.{fails_at_each, finds_nothing}
 
 -- two locks are on different files

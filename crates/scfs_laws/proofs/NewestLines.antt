@@ -20,7 +20,7 @@ use Rattle.scfs_model.specs.Sayings as says
 use Rattle.scfs_model.specs.Agents.{Input, Sent}
 use Rattle.scfs_model.specs.States.{Seat, State, request_line, comes}
 use Rattle.scfs_laws.specs.Newest.{after_commit, is_service, Saw_line, after_saw}
-use Rattle.scfs_laws.proofs.NewestLists.{Each, each-map, each-always, each-append, eqb-apart}
+use Rattle.scfs_laws.proofs.Lists.{Each, each-map, each-always, each-append, eqb-apart}
 use Rattle.scfs_laws.proofs.Ways.{IsIdle}
 
 -- a line that commits nothing

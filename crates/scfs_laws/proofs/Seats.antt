@@ -15,7 +15,7 @@ use Rattle.scfs_model.specs.Agents.{Request, Agent, Input, Tells, Hears, Sent, R
 use Rattle.scfs_model.specs.Reactions.{reacted}
 use Rattle.scfs_model.specs.Events.{At_agent, Answer_given, Place, Agent_has, Cloud_has}
 use Rattle.scfs_model.specs.States.{Reply, Seat, State, Effect, sum_of, is_there, comes, at_place}
-use Rattle.scfs_laws.proofs.NewestLists.{Each, Places, each-map, each-append, each-moved, places_set}
+use Rattle.scfs_laws.proofs.Lists.{Each, Places, each-map, each-append, each-moved, places_set}
 use Rattle.scfs_laws.proofs.Moves.{has_up}
 use Rattle.scfs_laws.proofs.Ways.{own_input, of_event}
 

@@ -15,7 +15,7 @@ use Rattle.scfs_model.specs.Agents.{Sent}
 use Rattle.scfs_model.specs.Events.{Place, Cloud_has, Request_answered, place_of}
 use Rattle.scfs_model.specs.Runs.{effect_after}
 use Rattle.scfs_model.specs.Clouds.{moved_by, asked_by, all_asked, net, did_message, reply_message, message_of, IsServed}
-use Rattle.scfs_laws.proofs.SoundLists.{Each, each_append, each_moved}
+use Rattle.scfs_laws.proofs.Lists.{Each, each-append, each-moved}
 
 set_cases : {X : Type 0} (xs : List X) (n c : ℕ) (v d : X) → (get_or (set xs n v) c d ≡ get_or xs c d) ⊎ ((n ≡ c) × (get_or (set xs n v) c d ≡ v))
 set_cases [] n c v d = inl refl
@@ -73,7 +73,7 @@ module _ (P : (c : ℕ) → CloudAnswer → Type 0) where
         → Each (IsReply c) (after_answer cloud waiting (answer_to how cloud.objects waiting)).replies
     answer_kept c how cloud [] k made = k
     answer_kept c how cloud (oldest ∷ waiting) k made =
-        each_append (IsReply c) cloud.replies ((record { request = oldest.request; answer = how cloud.objects oldest.body }) ∷ []) k (made, tt)
+        each-append (IsReply c) cloud.replies ((record { request = oldest.request; answer = how cloud.objects oldest.body }) ∷ []) k (made, tt)
 
     made_kept : (c : ℕ) (how : Answering) (message : Option Message) → message ≡ did_message (net_did how net c) → IsOf c message
         → AreReplies (net_answered how net c)
@@ -91,11 +91,11 @@ module _ (P : (c : ℕ) → CloudAnswer → Type 0) where
     moved_kept (events.Drop c) message is made = kept_at c taken (each_drop (IsReply c) (cloud_at net c).replies (h c))
     moved_kept (events.Defer c) message is made = kept_at c deferred (h c)
     moved_kept (events.Swap c) message is made =
-        kept_at c swapped (each_moved (IsReply c) (cloud_at net c).replies (h c))
+        kept_at c swapped (each-moved (IsReply c) (cloud_at net c).replies (h c))
     moved_kept (events.Again c) message is made = kept_at c repeated (h c)
     moved_kept (events.Twice c) message is made =
         let replies = (cloud_at net c).replies in
-        kept_at c doubled (each_append (IsReply c) replies (take 1 replies) (h c) (each_take (IsReply c) replies (h c)))
+        kept_at c doubled (each-append (IsReply c) replies (take 1 replies) (h c) (each_take (IsReply c) replies (h c)))
     moved_kept other message is made = h
 
   all_kept : (sent : List Sent) (net : NetState) → AreReplies net → AreReplies (all_asked net sent)

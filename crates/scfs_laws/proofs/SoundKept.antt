@@ -19,10 +19,12 @@ use Rattle.scfs_model.specs.Layers.{Version}
 use Rattle.scfs_model.specs.Walks.{OrRefusal}
 use Rattle.scfs_model.specs.SessionSteps.{Session_step, Commit, Session_outcome, Sees, Locks, Completes}
 use Rattle.scfs_model.specs.Steps.{Step, On_sessions, Outcome, Of_sessions}
-use Rattle.scfs_model.specs.Agents.{Opening, Waiting, For_clouds, Upload, Closed, Request, Agent, Input, Calls, Tells, Hears, Turns, Crashes, Starts, Sent, Reaction}
+use Rattle.scfs_model.specs.Agents.{Opening, Waiting, For_clouds, Upload, Closed, Request, Agent, Sent}
 use Rattle.scfs_model.specs.Events.{At_agent, Call_comes, Turn_comes, Crash_comes, Start_comes, Answer_given, Place, Agent_has, Cloud_has}
-use Rattle.scfs_model.specs.States.{Reply, Seat, State}
-use Rattle.scfs_laws.proofs.SoundLists.{Each}
+use Rattle.scfs_model.specs.States.{Reply, State}
+use Rattle.scfs_laws.proofs.Lists.{Each}
+use Rattle.scfs_laws.proofs.Moves.{Known}
+use Rattle.scfs_laws.proofs.Seats.{Parts, AreSeats}
 
 abbrev pub AreBytes : List ℕ → Type 0
 AreBytes bytes = All (λ b. b < 256) bytes
@@ -121,14 +123,11 @@ module _ (s : Setup) (Among : (c : ℕ) → (bytes : List ℕ) → Type 0) where
   abbrev pub IsAgent : Agent Version → Type 0
   IsAgent agent = IsWaiting agent.waiting × All IsSession (values_of agent.sessions) × Each IsClosed agent.closed
 
-  abbrev pub IsReaction : Reaction Version → Type 0
-  IsReaction r = IsAgent r.agent × Each IsRequest r.steps
-
-  abbrev pub IsSeat : Seat Version → Type 0
-  IsSeat seat = IsAgent seat.agent × Each IsRequest seat.asked × Each IsReply seat.replied
+  abbrev pub parts : Parts Version
+  parts = record { agent = λ a g. IsAgent g; step = λ a q. IsRequest q; reply = λ a y. IsReply y }
 
   abbrev pub IsState : State Version → Type 0
-  IsState state = Each IsVersion state.tree.versions × Each IsSeat state.seats
+  IsState state = Each IsVersion state.tree.versions × AreSeats parts state.seats
 
   -- an answer of a cloud whose bytes, where they pass under a root, have a good piece of that cloud
   abbrev pub IsHeard : (c : ℕ) → CloudAnswer → Type 0
@@ -136,13 +135,17 @@ module _ (s : Setup) (Among : (c : ℕ) → (bytes : List ℕ) → Type 0) where
       (root : Digest) (piece : KeptPiece) → s.format.check s.header.f c root bytes ≡ Some piece → IsFrom root c piece
   IsHeard c other = Unit {0}
 
-  abbrev pub IsInput : Input Version → Type 0
-  IsInput (Calls call) = IsWritten call
-  IsInput (Tells request o) = IsOutcome o
-  IsInput (Hears c request answer) = IsHeard c answer
-  IsInput Turns = Unit {0}
-  IsInput Crashes = Unit {0}
-  IsInput Starts = Unit {0}
+  -- what comes to an agent
+  abbrev pub known : Known Version
+  known =
+      record {
+        call = IsWritten;
+        sight = λ request sight. IfSome sight.version IsVersion;
+        answer = λ c request answer. IsHeard c answer;
+        turn = Unit {0};
+        crash = Unit {0};
+        start = Unit {0};
+      }
 
   -- a request whose object, where it puts one, is among them
   abbrev pub IsAsked : (c : ℕ) → CloudRequest → Type 0

@@ -25,8 +25,9 @@ use Rattle.scfs_model.specs.Clouds.{net, message_of, IsServed}
 use Rattle.scfs_laws.specs.Sound.{FitsPlace, WasClosed, IsSound}
 use Rattle.scfs_laws.specs.Blocks.{blocks_asked, blocks_sent, blocks_answered, blocks_at, new_blocks, blocks}
 use Rattle.scfs_laws.specs.Laws.{WritesBytes, BringsBytes, AreEvents, SoundWithoutClash, RunsWithoutClash, NoClashBefore}
-use Rattle.scfs_laws.proofs.SoundLists.{Each, each_replicate}
-use Rattle.scfs_laws.proofs.SoundKept.{IsSession, IsWritten, IsSeat, IsState, IsGiven, IsPlace, IsAsked, IsSent}
+use Rattle.scfs_laws.proofs.Lists.{Each, places_replicate}
+use Rattle.scfs_laws.proofs.SoundKept.{IsSession, IsWritten, parts, IsState, IsGiven, IsPlace, IsAsked, IsSent}
+use Rattle.scfs_laws.proofs.Seats.{IsSeat}
 use Rattle.scfs_laws.proofs.SoundStates.{place_keeps, place_fits}
 use Rattle.scfs_laws.proofs.SoundAnswers.{IsOf, IsMade, AreMade, given_made}
 use Rattle.scfs_laws.proofs.SoundUnit.{AreAmong, IsAmong, heard, gives_back}
@@ -106,7 +107,8 @@ module _ (header : Header) (whole : List (List ℕ)) (few : header.f ≤ 3) (apa
       (asked_is x.cloud x.body (among_front mine others whole h), sent_is sent (among_back mine others whole h))
 
   first_is : IsState s Among (first_state s)
-  first_is = (tt, each_replicate (IsSeat s Among) (length header.agents) (first_seat s) ((tt, All-nil IsSession, tt), tt, tt))
+  first_is = (tt, places_replicate (IsSeat (parts s Among)) (length header.agents) (first_seat s)
+      (λ a. record { agent = (tt, All-nil IsSession, tt); steps = tt; replies = tt }))
 
   past_is_sound : (past : History) → IsServed s past → AreEvents header past → AreAmong (blocks header past) whole
       → IsSound s past × IsState s Among (mapped s past)

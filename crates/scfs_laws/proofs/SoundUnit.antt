@@ -29,7 +29,7 @@ use Rattle.scfs_model.specs.Format.{Setup, clouds_of, seed_of, object_at}
 use Rattle.scfs_model.specs.Format as format
 use Rattle.scfs_model.specs.UnitFormat.{draw_for, accepted, under}
 use Rattle.scfs_model.specs.Layers.{Version}
-use Rattle.scfs_laws.proofs.SoundLists.{all_of_each}
+use Rattle.scfs_laws.proofs.Lists.{each-all}
 use Rattle.scfs_laws.proofs.SoundKept.{IsVersion, IsGood, IsHeard}
 use Rattle.scfs_laws.proofs.SoundStates.{GivesBack}
 
@@ -198,5 +198,5 @@ module _ (header : Header) (whole : List (List ℕ)) (few : header.f ≤ 3) (apa
         as_many = count;
         different = good.different;
         among = All-weaker (IsGood s Among root) (Contains (unit_pieces header.f (drawn seed header.f) v.bytes)) (λ piece. own_piece v piece is)
-            pieces (all_of_each (IsGood s Among root) pieces good.each);
+            pieces (each-all (IsGood s Among root) pieces good.each);
       })

@@ -1,19 +1,24 @@
 -- What an event does, in some ways: nothing, the clock going on, an input to an agent, a reply that is gone, a step served, a step postponed.
 use Rattle.std.proofs.Common.{◌≡◌, ℕ, ◌+◌, Bool, true, false, not, cond, List, [], ◌∷◌, refl, Option, Some, None, slice_get}
+use Rattle.std.specs.Prelude.{◌==◌}
+use Rattle.std.proofs.lemmas.Bool.{and_parts}
 use Rattle.scfs_base.specs.declared.naming.RequestNo.{RequestNo}
 use Rattle.scfs_base.specs.declared.cloud.CloudAnswer.{CloudAnswer}
 use Rattle.scfs_schedule.specs.declared.types.Line.{Line}
 use Rattle.scfs_schedule.specs.declared.types.Line.TheVariants as lines
 use Rattle.scfs_model.specs.Lists.{if_some}
 use Rattle.scfs_model.specs.Format.{Setup}
-use Rattle.scfs_model.specs.History.{Message, Of_request, Of_answer}
+use Rattle.scfs_model.specs.History.{Message, Of_request, Of_answer, History}
 use Rattle.scfs_model.specs.Versions.{Versions}
-use Rattle.scfs_model.specs.Given.{Given}
-use Rattle.scfs_model.specs.Agents.{Request, Input, Calls, Tells, Hears, Turns, Crashes, Starts}
+use Rattle.scfs_model.specs.Given.{Given, given_of}
+use Rattle.scfs_model.specs.Tree.{Tree, empty_tree, live}
+use Rattle.scfs_model.specs.Steps.{Step, served}
+use Rattle.scfs_model.specs.Runs.{state_after}
+use Rattle.scfs_model.specs.Agents.{Request, Agent, Input, Calls, Tells, Hears, Turns, Crashes, Starts}
 use Rattle.scfs_model.specs.Lives.{is_up}
-use Rattle.scfs_model.specs.Events.{At_agent, Call_comes, Turn_comes, Crash_comes, Start_comes, At_space, Step_served, Step_postponed, Reply_told, Request_answered, Answer_given, Message_moved, Place, Agent_has, Space_has, Cloud_has, Clock_has}
+use Rattle.scfs_model.specs.Events.{At_agent, Call_comes, Turn_comes, Crash_comes, Start_comes, At_space, Step_served, Step_postponed, Reply_told, Request_answered, Answer_given, Message_moved, Place, Agent_has, Space_has, Cloud_has, Clock_has, place_of}
 use Rattle.scfs_model.specs.States.{Reply, Seat, State, Effect, sum_of, leaving, with_seat, is_there, postpones, moves, answers_by, comes, serves, tells, gives, at_agent, at_space, at_place}
-use Rattle.scfs_laws.proofs.NewestLists.{Each}
+use Rattle.scfs_laws.proofs.Lists.{Each}
 use Rattle.scfs_laws.proofs.Moves.{has_up}
 
 -- a line that is neither the space's nor an agent's
@@ -30,6 +35,10 @@ own_input (Call_comes call) = Calls call
 own_input Turn_comes = Turns
 own_input Crash_comes = Crashes
 own_input Start_comes = Starts
+
+-- an agent is up where a reply to its request is told
+pub up_there : {V : Type 0} (g : Agent V) (request : RequestNo) → is_there g request ≡ true → is_up g.life ≡ true
+up_there g request there = (and_parts (is_up g.life) (g.incarnation == request.incarnation) there).0
 
 -- an event at a place, about this message of a cloud
 module _ {V : Type 0} (s : Setup) (vs : Versions V) (state : State V) (given : Given) (message : Option Message) (Q : Effect V → Type 0) where
@@ -128,3 +137,25 @@ module _ {V : Type 0} (s : Setup) (vs : Versions V) (state : State V) (given : G
   of_event (Cloud_has c Answer_given) ways = of_gives c message refl ways
   of_event (Cloud_has c Message_moved) ways = of_moves c message ways
   of_event (Clock_has ticks) ways = ways.later ticks
+
+-- what steps keep of the tree, each event keeps, and holds of the first tree, holds after each history
+module _ {V : Type 0} (s : Setup) (vs : Versions V) (T : Tree V → Type 0)
+    (each : (tree : Tree V) (now lease : ℕ) (request : RequestNo) (step : Step V) → T tree → T
+    (served vs (live now tree) now lease request step).tree) where
+  pub tree_always : T empty_tree → (past : History) → T (state_after s vs past).tree
+  tree_always first [] = first
+  tree_always first (e ∷ past) =
+      let state : State V = state_after s vs past in
+      let before : T state.tree = tree_always first past in
+      of_event s vs state (given_of state.clock e) e.message (λ x. T x.state.tree) (place_of e.event)
+      (record {
+        nothing = λ shown idle. before;
+        later = λ ticks. before;
+        gone = λ a seat request found. before;
+        missed = λ a seat oldest rest found is. before;
+        own = λ a seat x found is up. before;
+        hears = λ c request answer seat found is about there. before;
+        told = λ a seat oldest rest found is there. before;
+        serve = λ a seat oldest rest found is at. each state.tree state.clock s.header.lease oldest.number oldest.step before;
+        postpone = λ a seat oldest rest found is. before;
+      })

@@ -1,6 +1,12 @@
 -- Lists: what holds of each item, and of each two; seats by their numbers.
-use Rattle.std.proofs.Common.{◌≡◌, ℕ, ◌+◌, zero, suc, length, nat_lt, refl, List, [], ◌∷◌, ◌++◌, replicate, Bool, true, false, cond, sym, subst, Option, Some, slice_get, slice_set, find, filter, Contains, eqb, arith}
+use Rattle.std.proofs.Common.{◌≡◌, ℕ, ◌+◌, zero, suc, length, nat_lt, refl, ap, ◌∙◌, List, [], ◌∷◌, ◌++◌, replicate, Bool, true, false, cond, sym, subst, Option, Some, IfSome, slice_get, slice_set, find, filter, Contains, eqb, arith}
+use Rattle.std.specs.Prelude.{◌&&◌, ◌==◌}
+use Rattle.std.specs.List.{All}
+use Rattle.std.proofs.lemmas.List.Elements.{All-nil, All-cons}
+use Rattle.std.proofs.lemmas.Bool.{and_parts, eqb-true}
 use Rattle.std.proofs.lemmas.Bool.Decides.{nat_tests}
+use Rattle.scfs_base.specs.declared.naming.RequestNo.{RequestNo}
+use Rattle.scfs_model.specs.Names.{same_request}
 use Rattle.scfs_model.specs.Lists.{without_first, moved_back, put_by_number}
 
 -- what holds of each item
@@ -49,6 +55,10 @@ module _ {X : Type 0} (P : X → Type 0) where
   pub each-always : ((x : X) → P x) → (xs : List X) → Each P xs
   each-always f [] = tt
   each-always f (x ∷ xs) = (f x, each-always f xs)
+
+  pub each-all : (xs : List X) → Each P xs → All P xs
+  each-all [] h = All-nil P
+  each-all (x ∷ xs) h = All-cons P x xs h.0 (each-all xs h.1)
 
   pub each-append : (xs ys : List X) → Each P xs → Each P ys → Each P (xs ++ ys)
   each-append [] ys h k = k
@@ -100,6 +110,15 @@ module _ {X : Type 0} (P : X → Type 0) where
   pub each-found : (p : X → Bool) (xs : List X) (x : X) → Each P xs → find p xs ≡ Some x → P x
   each-found p [] x h found = cc
   each-found p (y ∷ xs) x h found = found_by (p y) y x (find p xs) h.0 (each-found p xs x h.1) found
+
+  -- and of what is found, if it is there
+  found_if : (b : Bool) (x : X) (rest : Option X) → P x → IfSome rest P → IfSome (cond b (Some x) rest) P
+  found_if true x rest h k = h
+  found_if false x rest h k = k
+
+  pub each-find : (p : X → Bool) (xs : List X) → Each P xs → IfSome (find p xs) P
+  each-find p [] h = tt
+  each-find p (x ∷ xs) h = found_if (p x) x (find p xs) h.0 (each-find p xs h.1)
 
   restored_by : (b : Bool) (y x : X) (xs less : List X) (rest : Option X) → P x → (rest ≡ Some x → Each P less → Each P xs)
       → cond b (Some y) rest ≡ Some x → Each P (cond b xs (y ∷ less)) → Each P (y ∷ xs)
@@ -176,3 +195,15 @@ put_within n m ms rest false longer = omega (arith, longer)
 pub length-put : (n : ℕ) (ms : List ℕ) → length (put_by_number n ms) ≡ length ms + 1
 length-put n [] = refl
 length-put n (m ∷ ms) = put_within n m ms (put_by_number n ms) (nat_lt n m) (length-put n ms)
+
+-- numbers of requests that pass for one are one
+pub same_number : (r q : RequestNo) → same_request r q ≡ true → r ≡ q
+same_number r q same =
+    let both = and_parts ((r.agent == q.agent) && (r.incarnation == q.incarnation)) (r.number == q.number) same in
+    let first = and_parts (r.agent == q.agent) (r.incarnation == q.incarnation) both.0 in
+    ap (λ a. record { agent = a; incarnation = r.incarnation; number = r.number }) (eqb-true r.agent q.agent first.0)
+    ∙ ap (λ i. record { agent = q.agent; incarnation = i; number = r.number }) (eqb-true r.incarnation q.incarnation first.1)
+    ∙ ap (λ n. record { agent = q.agent; incarnation = q.incarnation; number = n }) (eqb-true r.number q.number both.1)
+
+pub same_itself : (r : RequestNo) → same_request r r ≡ true
+same_itself r = rw (eqb-refl r.agent, eqb-refl r.incarnation, eqb-refl r.number)
