@@ -37,27 +37,27 @@ pub mod HeldSpace
 pub mod HeldKeeping
 pub mod HeldPlaces
 pub mod HeldReads
-mod HeldPlayed
-mod NewestLists
-mod NewestDraws
-mod NewestKept
-mod NewestSteady
-mod NewestWalk
-mod NamesWalks
-mod NamesEvents
-mod NamesSteps
-mod NamesApart
-mod NamesLocks
-mod NewestLines
-mod NamesCommits
-mod NewestVersions
-mod NewestTree
-mod NewestServes
-mod NewestSeats
-mod NewestSaid
-mod NewestComes
-mod NewestServed
-mod NewestPlaces
-mod NewestStates
-mod NewestOpens
-mod NewestRuns
+pub mod HeldPlayed
+pub mod NewestLists
+pub mod NewestDraws
+pub mod NewestKept
+pub mod NewestSteady
+pub mod NewestWalk
+pub mod NamesWalks
+pub mod NamesEvents
+pub mod NamesSteps
+pub mod NamesApart
+pub mod NamesLocks
+pub mod NewestLines
+pub mod NamesCommits
+pub mod NewestVersions
+pub mod NewestTree
+pub mod NewestServes
+pub mod NewestSeats
+pub mod NewestSaid
+pub mod NewestComes
+pub mod NewestServed
+pub mod NewestPlaces
+pub mod NewestStates
+pub mod NewestOpens
+pub mod NewestRuns

@@ -82,7 +82,7 @@ module _ {V : Type 0} (s : Setup) (vs : Versions V) (keeps : CompletionKeeps vs)
       })
       e.message (place_of e.event) same
 
-  state_ok : (past : History) → length past < 2 ^ 24 → Follows s vs past → StateOk vs past (state_after s vs past)
+  pub state_ok : (past : History) → length past < 2 ^ 24 → Follows s vs past → StateOk vs past (state_after s vs past)
   state_ok [] small follows = first_ok
   state_ok (e ∷ past) small follows =
       (fine_event past e small follows.0 (state_ok past (omega (arith, small)) follows.1)).0

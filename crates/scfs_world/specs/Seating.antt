@@ -1,4 +1,4 @@
-use Rattle.std.specs.Prelude.{◌≡◌, ◌<◌, ◌≤◌, ◌+◌, ◌*◌, ℕ, List, [], ◌∷◌, length, Some, slice_get, slice_set}
+use Rattle.std.specs.Prelude.{◌≡◌, ◌<◌, ◌≤◌, ◌+◌, ◌*◌, ℕ, List, [], ◌∷◌, length, Some, slice_get, slice_set, Result, Ok, Err}
 use Rattle.scfs_base.specs.Limits.{carried_limit}
 use Rattle.scfs_base.specs.declared.cloud.CloudAnswer.{CloudAnswer}
 use Rattle.scfs_base.specs.declared.naming.RequestNo.{RequestNo}
@@ -13,14 +13,16 @@ use Rattle.scfs_net.specs.Queues.{NetState}
 use Rattle.scfs_anchor.specs.Holding.{Holds}
 use Rattle.scfs_model.specs.UnitFormat.{under}
 use Rattle.scfs_model.specs.Clouds.{all_asked}
-use Rattle.scfs_model.specs.Events.{Place, Agent_has, Space_has, Cloud_has, Nowhere, place_of}
+use Rattle.scfs_model.specs.Events.{Place, Agent_has, Space_has, Cloud_has, Clock_has, place_of}
 use Rattle.scfs_model.specs.Layers.{Row, rows}
 use Rattle.scfs_model.specs.Runs.{Answers}
 use Rattle.scfs_model.specs.Agents.{Hears}
-use Rattle.scfs_model.specs.States.{Seat, State, Effect, leaving, comes, at_agent, at_space, sum_of}
+use Rattle.scfs_model.specs.States.{Seat, State, Effect, leaving, comes_back, at_agent, at_space, sum_of}
 use Rattle.scfs_world.specs.Shows.{ShowsSeat}
 use Rattle.scfs_world.specs.State.{SeatState}
 use Rattle.scfs_world.specs.Stepping.{IsSeat}
+use Rattle.scfs_world.specs.declared.fault.StepFault.{StepFault}
+use Rattle.scfs_world.specs.declared.fault.StepFault.TheVariants as faults
 use Rattle.scfs_world.specs.Whole.{IsWholeSeat}
 
 -- What an event at one seat does: it leaves all other seats.
@@ -39,7 +41,7 @@ abbrev pub placed_at : Place → At_seat
 placed_at (Agent_has b x) header a state ranks m = at_agent (under header) rows state (record { now = state.clock; ranks = ranks }) a x m
 placed_at (Space_has b x) header a state ranks m = at_space (under header) rows state (record { now = state.clock; ranks = ranks }) a x m
 placed_at (Cloud_has c x) header a state ranks m = leaving state []
-placed_at Nowhere header a state ranks m = leaving state []
+placed_at (Clock_has ticks) header a state ranks m = leaving state []
 
 abbrev pub event_at : Event → At_seat
 event_at event = placed_at (place_of event)
@@ -47,7 +49,7 @@ event_at event = placed_at (place_of event)
 -- an answer of a cloud is given to it
 abbrev pub answer_at : (c : ℕ) → RequestNo → CloudAnswer → At_seat
 answer_at c request answer header a state ranks m =
-    comes (under header) rows state a (record { now = state.clock; ranks = ranks })
+    comes_back (under header) rows state a (record { now = state.clock; ranks = ranks }) request
     (lines.Gave c request (sum_of (under header) answer) ∷ []) (Hears c request answer) m
 
 -- at a moment the seat of agent a is shown, and the tree, in which no file has more versions than this
@@ -68,7 +70,7 @@ pub record Leaves (header : Header) (a now most : ℕ) (new : Around) (net : Net
   pub space : Holds now (most + 1) new.space x.state.tree
   pub sent : new.net ≡ all_asked net x.sent
 
--- what the machine does at a seat is done
+-- what the machine does at a seat is done, for some answers that the rank rule allows
 abbrev pub SeatSteps : (allows : RankFacts → ℕ → Type 0) → (now : ℕ) → At_seat → (old new : Around) → List Line → Type 0
 SeatSteps allows now does old new shown =
     (header : Header) (a most : ℕ) (state : State Row) (m : Seat Row) → most < 1000000 → IsAt header a now most old state m →
@@ -106,4 +108,12 @@ IsAtSeat a (events.Space b) = b ≡ a
 IsAtSeat a (events.Later b) = b ≡ a
 IsAtSeat a (events.Told b) = b ≡ a
 IsAtSeat a (events.Turn b) = b ≡ a
+IsAtSeat a (events.Crash b) = b ≡ a
+IsAtSeat a (events.Start b) = b ≡ a
 IsAtSeat a other = ⊥
+
+-- what becomes of it: it is done, and leaves the seat ready; or it would carry too many bytes
+abbrev pub SeatDoes : (allows : RankFacts → ℕ → Type 0) → (now : ℕ) → At_seat → (old new : Around) → Result (List Line) StepFault → Type 0
+SeatDoes allows now does old new (Ok shown) = SeatSteps allows now does old new shown × KeepsReady old new
+SeatDoes allows now does old new (Err faults.TooLarge) = SeatPasses allows now does old
+SeatDoes allows now does old new (Err faults.Memory) = Unit {0}
