@@ -66,7 +66,7 @@ AsksAmong clouds (outputs.Line line) = Unit {0}
 
 -- an agent was given an input: how it was and is, and what it put out
 pub record IsGiven (allows : RankFacts → ℕ → Type 0) (now : ℕ) (input : Input) (was is : AgentState) (given : List Output) : Type 0 where
-  pub reacts : Reacts allows now input was is given
+  pub reacts : Reacts allows now was.header was.no was.agent is.agent given input
   pub fits : All (FitsOutput was.header.f) given
   pub header : is.header ≡ was.header
   pub no : is.no ≡ was.no
@@ -89,19 +89,27 @@ pub record IsTooMuch (allows : RankFacts → ℕ → Type 0) (now : ℕ) (input 
   pub it : IsGiven allows now input old.agent is given
   pub more : carried_limit < (net_with net given).carried
 
--- the oldest reply that waits, where the agent is to be told it, is that of what a step came to
+-- the numbers of the oldest reply that waits fit
 abbrev pub FitsOldest : AgentState → List StepReply → Type 0
 FitsOldest a [] = Unit {0}
-FitsOldest a (oldest ∷ rest) = is_there a.agent oldest.request ≡ true → FitsInput a (inputs.Space oldest.request oldest.reply)
+FitsOldest a (oldest ∷ rest) = FitsInput a.header a.agent (inputs.Space oldest.request oldest.reply)
 
--- what an event brings to an agent
+-- an event that comes to agent a
+abbrev pub ComesTo : (a : ℕ) → Event → Type 0
+ComesTo a (events.Call b call) = b ≡ a
+ComesTo a (events.Turn b) = b ≡ a
+ComesTo a (events.Crash b) = b ≡ a
+ComesTo a (events.Start b) = b ≡ a
+ComesTo a other = ⊥
+
+-- what it brings
 abbrev pub input_of : Event → Input
 input_of (events.Call a call) = inputs.Call call
 input_of (events.Crash a) = inputs.Crash
 input_of (events.Start a) = inputs.Start
 input_of other = inputs.Turn
 
--- whether an agent in this life can have it
+-- whether an agent can have it
 abbrev pub can_come : Event → Life → Bool
 can_come (events.Start a) life = not (is_up life)
 can_come other life = is_up life

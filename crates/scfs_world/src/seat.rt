@@ -1,7 +1,6 @@
 ghost use Rattle.std.specs.Prelude.{◌≡◌, ◌≢◌, ◌^◌, ◌+◌, ◌*◌, ◌<◌, ◌≤◌, ◌↔◌, ℕ, List, [], length, true, All, IfOk, IsTrue, is_some};
 ghost use Rattle.scfs_base.specs.Limits.{carried_limit};
 ghost use Rattle.scfs_model.specs.Agents.{first_agent};
-ghost use Rattle.scfs_model.specs.States.{is_there};
 ghost use Rattle.scfs_model.specs.UnitFormat.{under};
 ghost use Rattle.scfs_policy.specs.Rank.{IsRankRule};
 ghost use Rattle.scfs_schedule.specs.Grammar.{IsHeader};
@@ -121,7 +120,7 @@ impl Seat {
         requires event { (a : ℕ) × IsAtSeat a event.now }
         requires built { is_built event.now ≡ true }
         requires moment { now < 2 ^ 62 }
-        requires ready { IsReady 999999 (record { seat = self.old; space = space.old; net = net.old }) }
+        requires ready { IsReady 999999 self.old.agent self.old.asked net.old }
         requires shown { IsShownAt now (record { seat = self.old; space = space.old; net = net.old }) }
         ensures { SeatDoes (R.post rank.now) now (event_at event.now)
             (record { seat = self.old; space = space.old; net = net.old }) (record { seat = self.new; space = space.new; net = net.new }) result }
@@ -146,7 +145,7 @@ impl Seat {
     ) -> Result<Sequence<Line>, StepFault>
         requires rank { IsRankRule (R.pre rank.now) }
         requires cloud { cloud < 3 * self.old.agent.header.f + 1 }
-        requires ready { IsReady 999999 (record { seat = self.old; space = []; net = net.old }) }
+        requires ready { IsReady 999999 self.old.agent self.old.asked net.old }
         ensures { (space : List Tuple) → SeatDoes (R.post rank.now) now (answer_at cloud given.request given.answer)
             (record { seat = self.old; space = space; net = net.old }) (record { seat = self.new; space = space; net = net.new }) result }
     {
@@ -168,7 +167,7 @@ impl Seat {
     ) -> Result<Sequence<Line>, StepFault>
         requires rank { IsRankRule (R.pre rank.now) }
         requires room { self.old.agent.inputs < 1000000 }
-        requires input { FitsInput self.old.agent input }
+        requires input { FitsInput self.old.agent.header self.old.agent.agent input }
         requires clouds { length net.old.clouds ≡ 3 * self.old.agent.header.f + 1 }
         requires carried { net.old.carried ≤ carried_limit }
         ensures { Comes (R.post rank.now) now self.old self.new net.old net.new input before result }
@@ -215,7 +214,7 @@ impl Seat {
     ) -> Result<Sequence<Line>, StepFault>
         requires rank { IsRankRule (R.pre rank.now) }
         requires room { self.old.agent.inputs < 1000000 }
-        requires input { is_there self.old.agent.agent request ≡ true → FitsInput self.old.agent input }
+        requires input { FitsInput self.old.agent.header self.old.agent.agent input }
         requires clouds { length net.old.clouds ≡ 3 * self.old.agent.header.f + 1 }
         requires carried { net.old.carried ≤ carried_limit }
         ensures { ComesBack (R.post rank.now) now self.old self.new net.old net.new request input before result }
