@@ -11,11 +11,12 @@ use Rattle.scfs_base.specs.Limits.{turns_limit}
 use Rattle.scfs_model.specs.Names.{upload_name}
 use Rattle.scfs_model.specs.Asked as machine
 use Rattle.scfs_model.specs.Layers.{Row}
+use Rattle.scfs_model.specs.Lives.{Life, Down, Starting, Ready}
 use Rattle.scfs_model.specs.Next.{Next, Goes_on, Asks, Has}
 use Rattle.scfs_model.specs.Reading.{Reading}
 use Rattle.scfs_model.specs.Storing.{Storing}
 use Rattle.scfs_model.specs.NameSteps.{Make, Look}
-use Rattle.scfs_model.specs.LockSteps.{Unlock}
+use Rattle.scfs_model.specs.LockSteps.{Unlock, Unlock_all, Renew}
 use Rattle.scfs_model.specs.SessionSteps.{Open_read, Open_write, Commit}
 use Rattle.scfs_model.specs.Steps.{Step, On_names, On_locks, On_sessions}
 use Rattle.scfs_model.specs.Agents.{Opening, Waiting, For_step, For_clouds, For_close, Upload, Closed, Request}
@@ -44,6 +45,8 @@ step_of (askings.OpenRead path session) = On_sessions (Open_read path session)
 step_of (askings.OpenWrite path session) = On_sessions (Open_write path session)
 step_of (askings.Commit session row) = On_sessions (Commit session (row_of row))
 step_of (askings.Unlock id session) = On_locks (Unlock id session)
+step_of askings.UnlockAll = On_locks Unlock_all
+step_of (askings.Renew id session) = On_locks (Renew id session)
 
 abbrev pub request_of : Pending → Request Row
 request_of x = record { number = x.number; step = step_of x.asking }
@@ -89,13 +92,26 @@ upload_of x = record { version = row_of x.row; storing = storing_of x }
 abbrev pub closed_of : work.Upload → Closed Row
 closed_of x = record { number = x.session; session = left_session x.left; upload = Some (upload_of x) }
 
+-- what an agent is at, as its life, its unanswered call and its closed session
+abbrev pub life_of : Work → Life
+life_of works.Down = Down
+life_of works.Starting = Starting
+life_of works.Idle = Ready
+life_of works.Step = Ready
+life_of (works.Fetch x) = Ready
+life_of (works.Upload x) = Ready
+
 abbrev pub waiting_of : Work → Option (Waiting Row)
+waiting_of works.Down = None
+waiting_of works.Starting = None
 waiting_of works.Idle = None
 waiting_of works.Step = Some For_step
 waiting_of (works.Fetch x) = Some (For_clouds (opening_of x))
 waiting_of (works.Upload x) = Some For_close
 
 abbrev pub closed_in : Work → List (Closed Row)
+closed_in works.Down = []
+closed_in works.Starting = []
 closed_in works.Idle = []
 closed_in works.Step = []
 closed_in (works.Fetch x) = []

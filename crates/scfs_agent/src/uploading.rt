@@ -16,9 +16,9 @@ ghost use Rattle.scfs_agent.specs.State.{setup};
 ghost use Rattle.scfs_agent.specs.Views.{asked_of, row_of, left_session, upload_of, closed_of};
 ghost use Rattle.scfs_agent.specs.Outputs.{outputs_of};
 ghost use Rattle.scfs_agent.specs.Asking.{MayClose};
-ghost use Rattle.scfs_agent.specs.Keeping.{FitsOutput, IsFree, IsUpload};
+ghost use Rattle.scfs_agent.specs.Keeping.{FitsOutput, IsFree, IsUpload, MayDraw};
 
-use crate::outputs::{after_line, alone, append, is_answer_to, numbered, put_outputs};
+use crate::outputs::{append, is_answer_to, numbered, put_outputs};
 use crate::work::{Asked, Asking, Upload, Work};
 use crate::{Agent, Output};
 use scfs_anchor::VersionRow;
@@ -88,7 +88,7 @@ impl Agent {
     /// The upload of a closed session begins: its number is drawn, it is sealed, and its Puts are asked of all clouds.
     pub(crate) fn begin(&mut self, session: u64, left: Ended) -> Result<Sequence<Output>, Memory>
         requires free { IsFree self.old }
-        requires room { self.old.agent.requests + 32 ≤ 32 * self.old.inputs }
+        requires room { MayDraw self.old }
         requires count { self.old.agent.uploads + 1 ≤ self.old.inputs }
         requires short { length left.contents ≤ contents_limit }
         requires base { left.base ≤ 1000000 }
@@ -164,7 +164,7 @@ impl Agent {
     /// Asks Puts of these clouds.
     fn ask_puts(&mut self, mut upload: Upload, clouds: &[u8]) -> Result<Sequence<Output>, Memory>
         requires free { IsFree self.old }
-        requires room { self.old.agent.requests + 32 ≤ 32 * self.old.inputs }
+        requires room { MayDraw self.old }
         requires upload { IsUpload self.old.no self.old.agent.incarnation self.old.header.f self.old.inputs upload }
         requires few { length clouds.now ≤ 10 }
         requires clouds { All (λ c. c < 3 * self.old.header.f + 1) clouds.now }
@@ -192,7 +192,7 @@ impl Agent {
         answer: &CloudAnswer,
     ) -> Result<Sequence<Output>, Memory>
         requires free { IsFree self.old }
-        requires room { self.old.agent.requests + 32 ≤ 32 * self.old.inputs }
+        requires room { MayDraw self.old }
         requires upload { IsUpload self.old.no self.old.agent.incarnation self.old.header.f self.old.inputs upload }
         requires cloud { cloud < 3 * self.old.header.f + 1 }
         ensures gives { IfOk result (λ given. given ≡ outputs_of self.old
@@ -222,7 +222,7 @@ impl Agent {
     /// A turn of an upload: nothing once enough clouds acknowledged; else the eighth is short, and one before it asks again.
     pub(crate) fn turned_upload(&mut self, mut upload: Upload) -> Result<Sequence<Output>, Memory>
         requires free { IsFree self.old }
-        requires room { self.old.agent.requests + 32 ≤ 32 * self.old.inputs }
+        requires room { MayDraw self.old }
         requires upload { IsUpload self.old.no self.old.agent.incarnation self.old.header.f self.old.inputs upload }
         requires turns { upload.turns + 1 ≤ self.old.inputs }
         ensures gives { IfOk result (λ given. given ≡ outputs_of self.old
@@ -249,7 +249,7 @@ impl Agent {
     /// An upload is given up: its refusal, and the unlock.
     fn fall_short(&mut self, upload: &Upload, acked: u8) -> Result<Sequence<Output>, Memory>
         requires free { IsFree self.old }
-        requires room { self.old.agent.requests + 32 ≤ 32 * self.old.inputs }
+        requires room { MayDraw self.old }
         ensures gives { IfOk result (λ given. given ≡ outputs_of self.old
             (falls_short (setup self.old) self.old.no (record self.old.agent { waiting = Some For_close }) (closed_of upload.now) acked)) }
         ensures after { OnOk result (self.new ≡ record self.old {
@@ -258,7 +258,9 @@ impl Agent {
         ensures asks { IfOk result (λ given. All (FitsOutput self.old.header.f) given) }
     {
         self.work = Work::Idle;
-        let asked = self.ask(Asking::Unlock(upload.left.id, upload.session))?;
-        after_line(self.alloc, Line::No(self.no, Refusal::Short(acked)), asked)
+        self.leases.given_back(upload.session);
+        let mut given = self.ask(Asking::Unlock(upload.left.id, upload.session))?;
+        given.push(Output::Line(Line::No(self.no, Refusal::Short(acked))))?;
+        Ok(given)
     }
 }
