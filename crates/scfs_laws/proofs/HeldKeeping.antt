@@ -1,5 +1,5 @@
 -- After a reaction of its agent a seat is as what is seen says, with what is there and what strays.
-use Rattle.std.proofs.Common.{◌≡◌, ℕ, ◌+◌, ◌≤◌, List, [], ◌∷◌, ◌++◌, fold, true, false, true≢false, refl, sym, ap, ◌∙◌, subst, eq-eqb, Bool, ◌&&◌, arith, Option, Some, None, le_refl}
+use Rattle.std.proofs.Common.{◌≡◌, ℕ, List, [], ◌∷◌, ◌++◌, fold, true, false, true≢false, refl, sym, ap, ◌∙◌, eq-eqb, ◌&&◌, arith}
 use Rattle.std.specs.Prelude.{◌==◌}
 use Rattle.scfs_base.specs.declared.naming.RequestNo.{RequestNo}
 use Rattle.scfs_base.specs.declared.cloud.CloudRequest.{CloudRequest}
@@ -9,11 +9,11 @@ use Rattle.scfs_model.specs.Format.{Setup}
 use Rattle.scfs_model.specs.Lives.{is_up}
 use Rattle.scfs_model.specs.Sayings.{Saying, Saw, Opened, Made, Described, Reads_out, Wrote, Truncated, Ended, Stored, Refuses, Lapsed, Crashed, Started}
 use Rattle.scfs_model.specs.Sayings as says
-use Rattle.scfs_model.specs.Agents.{Agent, Request, Sent, Reaction}
+use Rattle.scfs_model.specs.Agents.{Request, Sent, Reaction}
 use Rattle.scfs_model.specs.Layers.{Row}
 use Rattle.scfs_model.specs.States.{Reply, Seat, is_there}
 use Rattle.scfs_laws.specs.Held.{Version_seen, Agent_seen}
-use Rattle.scfs_laws.proofs.HeldSeats.{Each, Seated}
+use Rattle.scfs_laws.proofs.HeldSeats.{Seated}
 use Rattle.scfs_laws.proofs.HeldSteps.{each_weaker}
 use Rattle.scfs_laws.proofs.HeldLines.{after_body, after_sent, after_saying, after_doing}
 use Rattle.scfs_laws.proofs.HeldMixed.{Mixed, StrayRequest, HereRequest, StrayReply, HereReply, Stands, more_there, mixed_map, row_with}

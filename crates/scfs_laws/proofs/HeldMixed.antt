@@ -1,5 +1,5 @@
 -- The steps and replies at a seat: those that are there for its agent, in their order, among others that stray.
-use Rattle.std.proofs.Common.{◌≡◌, ◌⊎◌, inl, inr, ℕ, ◌+◌, ◌≤◌, List, [], ◌∷◌, ◌++◌, true, false, refl, sym, ap, ◌∙◌, subst, eqb-true, Bool, ◌&&◌, arith, Option, Some, None}
+use Rattle.std.proofs.Common.{◌≡◌, ◌⊎◌, inl, inr, ℕ, ◌≤◌, List, [], ◌∷◌, ◌++◌, true, false, refl, sym, ap, ◌∙◌, subst, eqb-true, Bool, ◌&&◌, Option, None}
 use Rattle.std.specs.Prelude.{◌==◌}
 use Rattle.scfs_base.specs.declared.naming.RequestNo.{RequestNo}
 use Rattle.scfs_model.specs.Format.{Setup}
@@ -11,7 +11,6 @@ use Rattle.scfs_model.specs.Layers.{Row}
 use Rattle.scfs_model.specs.States.{Reply, Seat, is_there}
 use Rattle.scfs_laws.specs.Held.{Version_seen, Agent_seen}
 use Rattle.scfs_laws.proofs.HeldSeats.{Each, IsRow, latest, Fits, OutcomeFits, step_of, Seated}
-use Rattle.scfs_laws.proofs.HeldSteps.{asked_append}
 use Rattle.scfs_laws.proofs.HeldDoing.{seat_of}
 use Rattle.scfs_laws.proofs.HeldVersions.{seated_more, served_seated}
 
@@ -142,7 +141,10 @@ module _ (s : Setup) (a : ℕ) (versions : List Version_seen) (y : Agent_seen) w
   pub after_of : (agent : Agent Row) (oldest : Request Row) (rest : List (Request Row)) (replied : List (Reply Row))
       → Stands s versions a y (seat_of agent (oldest ∷ rest) replied) → After agent oldest rest replied
   after_of agent oldest rest replied is = elim is.asks [
-    | inl k ↦ (k.0.0, k.0.2, λ o same fits. record {
+    | inl k ↦ (
+      k.0.0,
+      k.0.2,
+      λ o same fits. record {
         asked = is.asked;
         replied = is.replied;
         seated = is.seated;
@@ -150,7 +152,8 @@ module _ (s : Setup) (a : ℕ) (versions : List Version_seen) (y : Agent_seen) w
         replies = one_stray (StrayReply s a y agent) (HereReply s a y agent) is.replied replied (record { number = oldest.number; outcome = o })
             is.replies (k.0.1, k.0.3);
         down = is.down;
-      })
+      },
+    )
     | inr k ↦
         let mine : Seated s versions a y (seat_of agent (oldest ∷ k.0) is.replied) =
         subst (λ l. Seated s versions a y (seat_of agent l is.replied)) k.1 is.seated in

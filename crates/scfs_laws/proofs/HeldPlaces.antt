@@ -16,7 +16,7 @@ use Rattle.scfs_model.specs.Format.{Setup}
 use Rattle.scfs_model.specs.History.{Message}
 use Rattle.scfs_model.specs.Given.{Given}
 use Rattle.scfs_model.specs.Sayings.{Saying, Saw, Opened, Made, Described, Reads_out, Wrote, Truncated, Ended, Stored, Refuses, Lapsed, Crashed, Started, Ready, said_by}
-use Rattle.scfs_model.specs.Agents.{Agent, Request, Sent, Input, Calls, Reaction}
+use Rattle.scfs_model.specs.Agents.{Sent, Input, Calls, Reaction}
 use Rattle.scfs_model.specs.Reactions.{reacted}
 use Rattle.scfs_model.specs.Layers.{Row, rows}
 use Rattle.scfs_model.specs.States.{Reply, Seat, State, Effect, request_line, leaving, at_seat, did, comes, comes_if, at_agent}

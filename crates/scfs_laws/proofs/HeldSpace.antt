@@ -258,20 +258,20 @@ module _ (s : Setup) (event : Event) (message : Option Message) (bytes : ℕ →
       let T : Request Row → Type 0 = HereRequest s a y agent in
       let later : Stands s x.versions a y (seat_of agent (rest ++ oldest ∷ []) replied) = elim mine.asks [
         | inl k ↦ record {
-            asked = mine.asked;
-            replied = mine.replied;
-            seated = mine.seated;
-            asks = one_stray S T mine.asked rest oldest k.1 k.0;
-            replies = mine.replies;
-            down = mine.down;
-          }
+          asked = mine.asked;
+          replied = mine.replied;
+          seated = mine.seated;
+          asks = one_stray S T mine.asked rest oldest k.1 k.0;
+          replies = mine.replies;
+          down = mine.down;
+        }
         | inr k ↦ record {
-            asked = k.0 ++ oldest ∷ [];
-            replied = mine.replied;
-            seated = back_seated agent oldest k.0 mine.replied (subst (λ l. Seated s x.versions a y (seat_of agent l mine.replied)) k.1 mine.seated);
-            asks = more_there S T k.0 rest (oldest ∷ []) k.3 (k.2, tt);
-            replies = mine.replies;
-            down = mine.down;
-          }
+          asked = k.0 ++ oldest ∷ [];
+          replied = mine.replied;
+          seated = back_seated agent oldest k.0 mine.replied (subst (λ l. Seated s x.versions a y (seat_of agent l mine.replied)) k.1 mine.seated);
+          asks = more_there S T k.0 rest (oldest ∷ []) k.3 (k.2, tt);
+          replies = mine.replies;
+          down = mine.down;
+        }
       ] in
       record { seen = seat_set (seat_of agent (rest ++ oldest ∷ []) replied) later is state.tree refl; shown = tt }

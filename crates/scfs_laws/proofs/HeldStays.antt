@@ -18,7 +18,7 @@ use Rattle.scfs_model.specs.Given.{Given}
 use Rattle.scfs_model.specs.Lives.{is_up, is_ready}
 use Rattle.scfs_model.specs.Walks.{OrRefusal}
 use Rattle.scfs_model.specs.LockSteps.{Lock_step, Unlock, Unlock_all, Renew, Lock_outcome, Frees, Renews}
-use Rattle.scfs_model.specs.SessionSteps.{Session_step, Open_read, Open_write, Commit, Sight, Session_outcome, Sees, Locks, Completes}
+use Rattle.scfs_model.specs.SessionSteps.{Open_read, Open_write, Commit, Sight, Session_outcome, Sees, Locks, Completes}
 use Rattle.scfs_model.specs.Steps.{Outcome, Of_names, Of_locks, Of_sessions}
 use Rattle.scfs_model.specs.Next.{Next, Goes_on, Asks, Has, Gives_up}
 use Rattle.scfs_model.specs.Reading.{is_awaited, piece_in, with_piece, read_on, read_turn}
@@ -29,7 +29,7 @@ use Rattle.scfs_model.specs.Leases.{leased, file_of, renews, renews_all, renews_
 use Rattle.scfs_model.specs.Opens.{Found, As_empty, On_clouds, found, sighted, saw, gives_up, reads, tallied, open_hears, open_turns}
 use Rattle.scfs_model.specs.Closes.{stores, with_storing, upload_hears, upload_turns}
 use Rattle.scfs_model.specs.Calls.{any_names, path_names, refuse, unless_refused, close, called, call_of}
-use Rattle.scfs_model.specs.Told.{is_pending, untold, told_locks, told_open, told_commit, told, tells}
+use Rattle.scfs_model.specs.Told.{is_pending, untold, told_locks, told_open, told_commit, told}
 use Rattle.scfs_model.specs.Reactions.{idle, to_open, to_closed, to_upload, to_work, responded, begun, next_begun, reacted}
 use Rattle.scfs_model.specs.Layers.{Row, rows}
 use Rattle.scfs_laws.proofs.NewestLists.{Each, each-map, each-append, chosen}

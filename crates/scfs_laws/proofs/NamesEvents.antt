@@ -13,7 +13,7 @@ use Rattle.scfs_model.specs.Steps.{Step, served}
 use Rattle.scfs_model.specs.Agents.{Request, Input, Calls, Tells, Hears, Turns, Crashes, Starts}
 use Rattle.scfs_model.specs.Lives.{is_up}
 use Rattle.scfs_model.specs.Events.{At_agent, Call_comes, Turn_comes, Crash_comes, Start_comes, At_space, Step_served, Step_postponed, Reply_told, At_cloud, Request_answered, Answer_given, Message_moved, Place, Agent_has, Space_has, Cloud_has, Clock_has, place_of}
-use Rattle.scfs_model.specs.States.{Reply, Seat, State, Effect, sum_of, leaving, with_seat, is_there, postpones, moves, answers_by, comes, comes_if, comes_back, serves, tells, gives, at_agent, at_space, at_cloud, at_place}
+use Rattle.scfs_model.specs.States.{Reply, Seat, State, Effect, sum_of, leaving, with_seat, is_there, postpones, moves, answers_by, comes, serves, tells, gives, at_agent, at_space, at_cloud, at_place}
 use Rattle.scfs_model.specs.Runs.{state_after}
 use Rattle.scfs_laws.proofs.NewestLists.{Each}
 

@@ -1,5 +1,5 @@
 -- What is known of a seat stays known when an input comes to its agent.
-use Rattle.std.proofs.Common.{◌≡◌, ℕ, ◌+◌, ◌*◌, ◌^◌, ◌<◌, ◌≤◌, List, [], ◌∷◌, ◌++◌, map, length, false, refl, sym, subst, ap, ◌∙◌, Option, fold, arith, le_refl, le_trans, zero-le}
+use Rattle.std.proofs.Common.{◌≡◌, ℕ, ◌+◌, ◌*◌, ◌^◌, ◌<◌, ◌≤◌, List, [], ◌∷◌, ◌++◌, map, false, refl, sym, subst, ap, ◌∙◌, Option, fold, arith, le_refl, le_trans, zero-le}
 use Rattle.std.specs.List.{list_any}
 use Rattle.scfs_base.specs.declared.naming.RequestNo.{RequestNo}
 use Rattle.scfs_schedule.specs.declared.types.Line.{Line}
@@ -83,8 +83,12 @@ module _ {V : Type 0} (vs : Versions V) (past : History) (e : Entry) (nodes : Li
       f.0,
       more request f.1,
       each-append _ seat.asked r.steps f.2
-          (each-map _ _ (λ x d one same. omega (arith, d.1, same,
-          f.1.1 (omega (arith, ap (λ (y : RequestNo). y.incarnation) d.0, one)))) r.steps whole.0.4),
+          (each-map _ _ (λ x d one same. omega (
+            arith,
+            d.1,
+            same,
+            f.1.1 (omega (arith, ap (λ (y : RequestNo). y.incarnation) d.0, one)),
+          )) r.steps whole.0.4),
     ),
   )
 

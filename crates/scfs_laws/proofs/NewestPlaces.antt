@@ -1,5 +1,5 @@
 -- What is known of seats stays known when a step is served.
-use Rattle.std.proofs.Common.{◌≡◌, ℕ, ◌+◌, ◌^◌, ◌<◌, ◌≤◌, List, [], ◌∷◌, ◌++◌, length, false, cond, ◌||◌, refl, sym, subst, ap, ◌∙◌, Some, Ok, Err, arith, le_trans}
+use Rattle.std.proofs.Common.{◌≡◌, ℕ, ◌+◌, ◌^◌, ◌<◌, List, [], ◌∷◌, ◌++◌, length, false, cond, ◌||◌, refl, sym, subst, ap, ◌∙◌, Some, Ok, Err, arith}
 use Rattle.std.specs.List.{list_any}
 use Rattle.scfs_base.specs.declared.naming.RequestNo.{RequestNo}
 use Rattle.scfs_schedule.specs.declared.types.Line.{Line}

@@ -19,7 +19,7 @@ use Rattle.scfs_model.specs.Lives.{is_up}
 use Rattle.scfs_model.specs.Agents.{Request, Input, Calls, Tells, Hears, Turns, Crashes, Starts, Sent, Reaction}
 use Rattle.scfs_model.specs.Reactions.{reacted}
 use Rattle.scfs_model.specs.Events.{At_agent, Call_comes, Turn_comes, Crash_comes, Start_comes, At_space, Step_served, Step_postponed, Reply_told, Request_answered, Answer_given, Message_moved, Place, Agent_has, Space_has, Cloud_has, Clock_has, place_of}
-use Rattle.scfs_model.specs.States.{Reply, Seat, State, Effect, request_line, sum_of, leaving, skips, with_seat, at_seat, is_there, postpones, moves, did, comes, comes_if, comes_back, serves, tells, answers_by, gives, at_agent, at_space, at_place, effect}
+use Rattle.scfs_model.specs.States.{Reply, Seat, State, Effect, request_line, sum_of, leaving, with_seat, at_seat, is_there, postpones, moves, did, comes, comes_if, comes_back, serves, tells, answers_by, gives, at_agent, at_space, at_place, effect}
 use Rattle.scfs_laws.specs.Mapped as to
 use Rattle.scfs_laws.specs.Mapped.{Own, through}
 use Rattle.scfs_laws.specs.Sound.{FitsAt, FitsGiven, FitsPlace}
