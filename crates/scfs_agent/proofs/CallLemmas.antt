@@ -12,6 +12,7 @@ use Rattle.scfs_schedule.specs.declared.types.Refusal.TheVariants as refusals
 use Rattle.scfs_session.specs.declared.sessions.Session.{Session}
 use Rattle.scfs_session.specs.Open.{OpenSessions, session_of, ended, change_answer, sessions_after}
 use Rattle.scfs_model.specs.Layers.{Row}
+use Rattle.scfs_model.specs.Lives.{Life, is_ready}
 use Rattle.scfs_model.specs.Sayings.{Saying}
 use Rattle.scfs_model.specs.Format.{Setup}
 use Rattle.scfs_model.specs.SessionSteps.{Open_read, Open_write}
@@ -20,6 +21,7 @@ use Rattle.scfs_model.specs.Calls.{call_of, called, refuse, unless_refused, any_
 use Rattle.scfs_agent.specs.State.{AgentState, setup}
 use Rattle.scfs_agent.specs.Outputs.{outputs_of}
 use Rattle.scfs_agent.specs.Settled.{settled, HasBegun}
+use Rattle.scfs_agent.specs.Keeping.{IsIdle}
 use Rattle.scfs_agent.specs.declared.types.Output.TheVariants as outputs
 use Rattle.scfs_agent.proofs.SettledLemmas.{settled_same}
 
@@ -92,12 +94,13 @@ called_leaves s a agent (calls.Versions path) other = refl
 called_leaves s a agent (calls.Collect path) other = refl
 called_leaves s a agent calls.Purge other = refl
 
-pub called_idle : (old : AgentState) (call : Call) → old.agent.waiting ≡ None → old.agent.closed ≡ [] → ((h : ℕ) → call ≢ calls.Close h)
+pub called_idle : (old : AgentState) (call : Call) → IsIdle old → ((h : ℕ) → call ≢ calls.Close h)
     → called old.no (setup old) old.agent call ≡ settled (setup old) old.no (call_of old.no (setup old) old.agent call old.agent.waiting)
-called_idle old call idle none other =
+called_idle old call idle other =
     let r = called old.no (setup old) old.agent call in
-    sym (settled_same (setup old) old.no r (subst HasBegun (sym (called_leaves (setup old) old.no old.agent call other ∙ none)) tt))
-    ∙ ap (λ (o : Option (Waiting Row)). settled (setup old) old.no (call_of old.no (setup old) old.agent call o)) (sym idle)
+    sym (settled_same (setup old) old.no r (subst HasBegun (sym (called_leaves (setup old) old.no old.agent call other ∙ idle.free.closed)) tt))
+    ∙ ap (λ (l : Life). settled (setup old) old.no (if is_ready l then r else refuse old.agent (refusals.Starting 0))) (sym idle.free.life)
+    ∙ ap (λ (o : Option (Waiting Row)). settled (setup old) old.no (call_of old.no (setup old) old.agent call o)) (sym idle.waiting)
 
 -- an agent with these sessions
 abbrev pub with_sessions : AgentState → OpenSessions → AgentState

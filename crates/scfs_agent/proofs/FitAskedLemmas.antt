@@ -1,8 +1,11 @@
 -- Each step that an agent asks is one that the space serves as the machine does.
+use Rattle.std.specs.Prelude.{filter, ◌&&◌, not}
 use Rattle.std.proofs.Common.{◌≡◌, ◌≢◌, ℕ, ◌+◌, ◌^◌, ◌<◌, List, [], ◌∷◌, ◌++◌, length, nat_lt, arith, refl, sym, subst, is_some, if◌then◌else◌, Bool, true, false, Option, Some, None, Result, Ok, Err}
 use Rattle.scfs_base.specs.declared.naming.RequestNo.{RequestNo}
 use Rattle.scfs_base.specs.declared.cloud.CloudAnswer.{CloudAnswer}
 use Rattle.scfs_base.specs.Limits.{handles_limit}
+use Rattle.scfs_lease.specs.declared.leases.Lease.{Lease}
+use Rattle.scfs_lease.specs.Leases.{is_due}
 use Rattle.scfs_schedule.specs.declared.types.Call.{Call}
 use Rattle.scfs_schedule.specs.declared.types.Call.TheVariants as calls
 use Rattle.scfs_schedule.specs.declared.types.Header.{Header}
@@ -22,13 +25,16 @@ use Rattle.scfs_model.specs.Steps.{Step, On_sessions, Outcome, Of_names, Of_lock
 use Rattle.scfs_model.specs.Next.{Next, Goes_on, Asks, Has, Gives_up}
 use Rattle.scfs_model.specs.Reading.{read_on, read_turn, with_piece, is_awaited, piece_in}
 use Rattle.scfs_model.specs.Storing.{is_new_ack, with_ack, store_on, store_turn}
-use Rattle.scfs_model.specs.Agents.{Opening, Waiting, For_step, For_clouds, For_close, Closed, Upload, Agent, Input, Calls, Tells, Hears, Turns, Reaction, followed, asks_step}
+use Rattle.scfs_model.specs.Agents.{Opening, Waiting, For_step, For_clouds, For_close, Closed, Upload, Agent, Input, Calls, Tells, Hears, Turns, Crashes, Starts, Reaction, followed, asks_step}
+use Rattle.scfs_model.specs.Lives.{is_ready}
+use Rattle.scfs_model.specs.Leases.{leased, renews_all}
 use Rattle.scfs_model.specs.Calls.{any_names, path_names, some_names, unless_refused, close, makes, looks, opens, called, call_of}
 use Rattle.scfs_model.specs.Closes.{stores, with_storing, upload_hears, upload_turns}
 use Rattle.scfs_model.specs.Opens.{Found, As_empty, On_clouds, found, sighted, reads, open_hears, open_turns, tallied}
 use Rattle.scfs_model.specs.Told.{is_pending, untold, told_open, told_closed, told_commit, told}
 use Rattle.scfs_model.specs.Reactions.{idle, to_open, to_closed, to_upload, to_work, responded, begun, next_begun, reacted}
 use Rattle.scfs_agent.specs.Asking.{CanBeAsked, MayUpload, MayAsk}
+use Rattle.scfs_agent.proofs.LeaseLemmas.{renewed, told_calm}
 
 -- what holds of both holds of the chosen one
 chosen : {A : Type 0} (P : A → Type 0) (b : Bool) (x y : A) → P x → P y → P (if b then x else y)
@@ -71,17 +77,20 @@ module _ (s : Setup) (a : ℕ) (small : a < 2 ^ 8) where
   closing agent h None = tt
   closing agent h (Some y) = chosen Servable y.writes _ _ tt tt
 
+  below : (agent : Agent Row) → MayAsk a agent → agent.incarnation < 2 ^ 24
+  below agent may = omega (arith, may.incarnation)
+
   calling : (agent : Agent Row) → MayAsk a agent → (call : Call) → Servable (called a s agent call)
   calling agent may (calls.Create path) =
       unless agent (path_names s path) (makes a agent)
-      (λ names is. (((small, may.incarnation), (some (any_names s path) names is, omega (arith, may.files, may.incarnation, small))), tt))
-  calling agent may (calls.Stat path) = unless agent (any_names s path) (looks a agent) (λ names is. (((small, may.incarnation), tt), tt))
+      (λ names is. (((small, below agent may), (some (any_names s path) names is, omega (arith, may.files, may.incarnation, small))), tt))
+  calling agent may (calls.Stat path) = unless agent (any_names s path) (looks a agent) (λ names is. (((small, below agent may), tt), tt))
   calling agent may (calls.OpenR path) =
       unless agent (path_names s path) (λ names. opens a agent (Open_read names))
-      (λ names is. opening agent (Open_read names) may.incarnation (some (any_names s path) names is))
+      (λ names is. opening agent (Open_read names) (below agent may) (some (any_names s path) names is))
   calling agent may (calls.OpenW path) =
       unless agent (path_names s path) (λ names. opens a agent (Open_write names))
-      (λ names is. opening agent (Open_write names) may.incarnation (some (any_names s path) names is, may.opens))
+      (λ names is. opening agent (Open_write names) (below agent may) (some (any_names s path) names is, may.opens))
   calling agent may (calls.Read h offset count) =
       unless agent (read_answer (session_of agent.sessions h) offset count) _ (λ bytes is. tt)
   calling agent may (calls.Write h offset new) = unless agent (after_write (session_of agent.sessions h) offset new) _ (λ y is. tt)
@@ -99,7 +108,7 @@ module _ (s : Setup) (a : ℕ) (small : a < 2 ^ 8) where
   calling agent may calls.Purge = tt
 
   call : (agent : Agent Row) → MayAsk a agent → (x : Call) (w : Option (Waiting Row)) → Servable (call_of a s agent x w)
-  call agent may x None = calling agent may x
+  call agent may x None = chosen Servable (is_ready agent.life) _ _ (calling agent may x) tt
   call agent may x (Some waiting) = tt
 
   -- uploads
@@ -142,6 +151,15 @@ module _ (s : Setup) (a : ℕ) (small : a < 2 ^ 8) where
     begins None = tt
     begins (Some u) = tt
 
+  -- what is closed may be completed, also by an agent with the same
+  abbrev MayCloseAll : Agent Row → Type 0
+  MayCloseAll agent = Each (λ (x : Closed Row). MayUpload a agent.incarnation x.upload) agent.closed
+
+  same_closes : (agent next : Agent Row) → next.incarnation ≡ agent.incarnation → next.closed ≡ agent.closed → MayCloseAll agent → MayCloseAll next
+  same_closes agent next i closed may =
+      subst (λ xs. Each (λ (x : Closed Row). MayUpload a next.incarnation x.upload) xs) (sym closed)
+      (subst (λ n. Each (λ (x : Closed Row). MayUpload a n x.upload) agent.closed) (sym i) may)
+
   -- opens; what they do leaves the closed sessions
 
   -- it asks well, and leaves the incarnation and the closed sessions
@@ -174,16 +192,13 @@ module _ (s : Setup) (a : ℕ) (small : a < 2 ^ 8) where
   of_open agent on each fits (Some For_close) = (tt, refl, refl)
 
   of_work : (agent : Agent Row) (on_open : Agent Row → Opening Row → Reaction Row) (on_upload : Agent Row → Closed Row → Upload Row → Reaction Row)
-      → ((agent : Agent Row) (o : Opening Row) → agent.incarnation < 2 ^ 24 → LeavesCloses agent (on_open agent o)) → ForUploads on_upload → MayAsk a agent
-      → Servable (to_work agent on_open on_upload)
-  of_work agent on_open on_upload opens_well uploads_well may =
-      let first : LeavesCloses agent (to_open agent on_open agent.waiting) = of_open agent on_open opens_well may.incarnation agent.waiting in
+      → ((agent : Agent Row) (o : Opening Row) → agent.incarnation < 2 ^ 24 → LeavesCloses agent (on_open agent o)) → ForUploads on_upload
+      → agent.incarnation < 2 ^ 24 → MayCloseAll agent → Servable (to_work agent on_open on_upload)
+  of_work agent on_open on_upload opens_well uploads_well fits may =
+      let first : LeavesCloses agent (to_open agent on_open agent.waiting) = of_open agent on_open opens_well fits agent.waiting in
       let next : Agent Row = (to_open agent on_open agent.waiting).agent in
-      let fits : next.incarnation < 2 ^ 24 = subst (λ n. n < 2 ^ 24) (sym first.1) may.incarnation in
-      let closes : Each (λ (x : Closed Row). MayUpload a next.incarnation x.upload) next.closed =
-      subst (λ xs. Each (λ (x : Closed Row). MayUpload a next.incarnation x.upload) xs) (sym first.2)
-      (subst (λ n. Each (λ (x : Closed Row). MayUpload a n x.upload) agent.closed) (sym first.1) may.closes) in
-      both (to_open agent on_open agent.waiting) (λ next. to_upload next on_upload next.closed) first.0 (of_upload next on_upload uploads_well fits next.closed closes)
+      both (to_open agent on_open agent.waiting) (λ next. to_upload next on_upload next.closed) first.0
+      (of_upload next on_upload uploads_well (subst (λ n. n < 2 ^ 24) (sym first.1) fits) next.closed (same_closes agent next first.1 first.2 may))
 
   -- what the space replied
 
@@ -193,7 +208,7 @@ module _ (s : Setup) (a : ℕ) (small : a < 2 ^ 8) where
 
   told_of_open : (agent : Agent Row) (given : Given) (request : RequestNo) (h : ℕ) (r : OrRefusal (Session_outcome Row)) → Servable (told_open s rows a agent given request h r)
   told_of_open agent given request h (Ok (Sees sight)) = sees agent given h false sight (found sight)
-  told_of_open agent given request h (Ok (Locks sight l)) = sees agent given h true sight (found sight)
+  told_of_open agent given request h (Ok (Locks sight l)) = sees (leased agent h l.until) given h true sight (found sight)
   told_of_open agent given request h (Ok (Completes session v n)) = tt
   told_of_open agent given request h (Err why) = tt
 
@@ -209,7 +224,7 @@ module _ (s : Setup) (a : ℕ) (small : a < 2 ^ 8) where
 
   told_of : (agent : Agent Row) (given : Given) (request : RequestNo) (o : Outcome Row) → Servable (told s rows a agent given request o)
   told_of agent given request (Of_names x r) = tt
-  told_of agent given request (Of_locks x r) = tt
+  told_of agent given request (Of_locks x r) = subst (Each CanBeAsked) (sym (told_calm agent x r).steps) tt
   told_of agent given request (Of_sessions (Open_read names h) r) = told_of_open agent given request h r
   told_of agent given request (Of_sessions (Open_write names h) r) = told_of_open agent given request h r
   told_of agent given request (Of_sessions (Commit h v) r) = told_of_commit agent agent.closed r
@@ -220,8 +235,16 @@ module _ (s : Setup) (a : ℕ) (small : a < 2 ^ 8) where
       chosen Servable (is_pending agent request) _ _ (told_of (untold agent request) given request o) tt
   responds agent given (Hears c request answer) may =
       of_work agent (λ next o. open_hears s rows a next o c request answer) (λ next x u. upload_hears s a next x u c request answer)
-      (λ next o fits. heard next o c request answer fits) (upload_heard c request answer) may
-  responds agent given Turns may = of_work agent (open_turns s rows a) (upload_turns s a) turned upload_turned may
+      (λ next o fits. heard next o c request answer fits) (upload_heard c request answer) (below agent may) may.closes
+  responds agent given Turns may =
+      let due = filter (λ (l : Lease). is_due given.now s.header.lease l && not l.asked) agent.leases in
+      let first = renewed a agent due in
+      let next = (renews_all rows a agent due).agent in
+      both (renews_all rows a agent due) (λ next. to_work next (open_turns s rows a) (upload_turns s a)) (first.asked small (below agent may))
+      (of_work next (open_turns s rows a) (upload_turns s a) turned upload_turned (subst (λ n. n < 2 ^ 24) (sym first.incarnation) (below agent may))
+      (same_closes agent next first.incarnation first.closed may.closes))
+  responds agent given Crashes may = tt
+  responds agent given Starts may = (((small, may.incarnation), tt), tt)
 
 pub all_asked_fit : (header : Header) (a : ℕ) (agent : Agent Row) (given : Given) (input : Input Row) → MayAsk a agent
     → Each CanBeAsked (reacted (under header) rows a agent given input).steps

@@ -1,3 +1,4 @@
+pub mod LeaseLemmas
 pub mod CloudLists
 pub mod CodeOrder
 pub mod ReadingLemmas

@@ -122,12 +122,16 @@ module _ (request : RequestNo) where
 
 -- where a call waits for a step, nothing is uploaded
 closed_by_call : (w : Work) (n : ℕ) → n + 1 ≤ calls_of (waiting_of w) → closed_in w ≡ []
+closed_by_call works.Down n l = refl
+closed_by_call works.Starting n l = refl
 closed_by_call works.Idle n l = refl
 closed_by_call works.Step n l = refl
 closed_by_call (works.Fetch fetch) n l = refl
 closed_by_call (works.Upload upload) n l = absurd (omega (arith, l))
 
 no_other_call : (w : Work) (n : ℕ) → n + 1 ≤ calls_of (waiting_of w) → n ≡ 0
+no_other_call works.Down n l = absurd (omega (arith, l))
+no_other_call works.Starting n l = absurd (omega (arith, l))
 no_other_call works.Idle n l = absurd (omega (arith, l))
 no_other_call works.Step n l = omega (arith, l)
 no_other_call (works.Fetch fetch) n l = absurd (omega (arith, l))

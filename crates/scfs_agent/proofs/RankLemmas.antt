@@ -26,11 +26,13 @@ use Rattle.scfs_model.specs.SessionSteps.{Session_step, Open_read, Open_write, C
 use Rattle.scfs_model.specs.Steps.{Step, Outcome, Of_names, Of_locks, Of_sessions}
 use Rattle.scfs_model.specs.Agents.{Agent, Closed, Request, silent}
 use Rattle.scfs_model.specs.Opens.{As_empty, found, found_version, saw, sighted}
+use Rattle.scfs_model.specs.Leases.{leased}
 use Rattle.scfs_model.specs.Told.{tells, told, told_commit, untold}
 use Rattle.scfs_agent.specs.Views.{request_of}
 use Rattle.scfs_agent.specs.Views as views
 use Rattle.scfs_agent.specs.Telling.{IsIts, outcome_step, pending_step, first_place, is_numbered, is_open, has_version, shows_version, reads_version}
 use Rattle.scfs_agent.specs.declared.work.Pending.{Pending}
+use Rattle.scfs_agent.proofs.LeaseLemmas.{told_calm}
 use Rattle.scfs_agent.proofs.PendingLemmas.{any_found, none_pending, taken_found}
 use Rattle.scfs_agent.proofs.ToldLemmas.{sight_is}
 
@@ -47,7 +49,7 @@ shows_done (results.Refused index found) done = absurd done
 shows_refused : (step : tuples.Step) (why : Refusal) (result : StepResult) → IsRefusal step why result → shows_version result ≡ false
 shows_refused step why result h = ap shows_version h.2
 
-module _ (s : Setup) (a : ℕ) (agent : Agent Row) (given : Given) where
+module _ (s : Setup) (a : ℕ) (given : Given) (agent : Agent Row) where
   abbrev asked : Bool → List RankFacts
   asked b = cond b agent.tallies []
 
@@ -72,21 +74,22 @@ module _ (s : Setup) (a : ℕ) (agent : Agent Row) (given : Given) where
   commit_asks (x ∷ rest) (Ok (Locks sight l)) = refl
   commit_asks (x ∷ rest) (Err why) = refl
 
+module _ (s : Setup) (a : ℕ) (given : Given) (agent : Agent Row) where
   told_asks : (lease : ℕ) (request : RequestNo) (o : Outcome Row) (reply : Reply) → IsReplyTo lease request o reply
-      → (told s rows a agent given request o).ranked ≡ asked (is_open (outcome_step o) && shows_version reply.result)
+      → (told s rows a agent given request o).ranked ≡ asked s a given agent (is_open (outcome_step o) && shows_version reply.result)
   told_asks lease request (Of_names x r) reply is = refl
-  told_asks lease request (Of_locks x r) reply is = refl
-  told_asks lease request (Of_sessions (Commit h v) r) reply is = commit_asks agent.closed r
-  told_asks lease request (Of_sessions (Open_read names h) (Ok (Sees sight))) reply is = saw_asks request h false sight reply is
+  told_asks lease request (Of_locks x r) reply is = (told_calm agent x r).ranked
+  told_asks lease request (Of_sessions (Commit h v) r) reply is = commit_asks s a given agent agent.closed r
+  told_asks lease request (Of_sessions (Open_read names h) (Ok (Sees sight))) reply is = saw_asks s a given agent request h false sight reply is
   told_asks lease request (Of_sessions (Open_read names h) (Ok (Locks sight l))) reply is = absurd is
   told_asks lease request (Of_sessions (Open_read names h) (Ok (Completes session v n))) reply is = absurd is
   told_asks lease request (Of_sessions (Open_read names h) (Err why)) reply is =
-      ap asked (sym (shows_refused (step_of (session_plan lease request (Open_read names h))) why reply.result is))
+      ap (asked s a given agent) (sym (shows_refused (step_of (session_plan lease request (Open_read names h))) why reply.result is))
   told_asks lease request (Of_sessions (Open_write names h) (Ok (Sees sight))) reply is = absurd is
-  told_asks lease request (Of_sessions (Open_write names h) (Ok (Locks sight l))) reply is = saw_asks request h true sight reply is
+  told_asks lease request (Of_sessions (Open_write names h) (Ok (Locks sight l))) reply is = saw_asks s a given (leased agent h l.until) request h true sight reply is
   told_asks lease request (Of_sessions (Open_write names h) (Ok (Completes session v n))) reply is = absurd is
   told_asks lease request (Of_sessions (Open_write names h) (Err why)) reply is =
-      ap asked (sym (shows_refused (step_of (session_plan lease request (Open_write names h))) why reply.result is))
+      ap (asked s a given agent) (sym (shows_refused (step_of (session_plan lease request (Open_write names h))) why reply.result is))
 
 -- what is asked, by the code's test
 pub tells_asks : (s : Setup) (a lease : ℕ) (agent : Agent Row) (given : Given) (request : RequestNo) (o : Outcome Row) (reply : Reply)
@@ -99,7 +102,7 @@ tells_asks s a lease agent given request o reply is its =
           → (if is_some p then told s rows a (untold agent request) given request o else silent agent).ranked ≡ cond (reads_version p reply.result) agent.tallies []
       by None e = refl
       by (Some x) e =
-          told_asks s a (untold agent request) given lease request o reply is
+          told_asks s a given (untold agent request) lease request o reply is
           ∙ ap (λ (step : Step Row). cond (is_open step && shows_version reply.result) agent.tallies []) (sym e)
 
 -- a reply to a request that was not made, and to what stands at its place

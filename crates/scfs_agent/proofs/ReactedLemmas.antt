@@ -1,9 +1,11 @@
 -- What the rank rule is asked in a reaction, and that no upload begins behind most.
 use Rattle.std.proofs.Common.{◌≡◌, ℕ, ◌+◌, List, [], ◌∷◌, ◌++◌, length, Bool, true, false, Option, Some, None, Result, Ok, Err, refl, sym, ap, ◌∙◌, subst}
-use Rattle.std.specs.Prelude.{is_some, if◌then◌else◌, nat_lt}
+use Rattle.std.specs.Prelude.{filter, ◌&&◌, not, is_some, if◌then◌else◌, nat_lt}
 use Rattle.std.proofs.lemmas.List.{append-nil}
 use Rattle.scfs_base.specs.declared.naming.RequestNo.{RequestNo}
 use Rattle.scfs_base.specs.declared.cloud.CloudAnswer.{CloudAnswer}
+use Rattle.scfs_lease.specs.declared.leases.Lease.{Lease}
+use Rattle.scfs_lease.specs.Leases.{is_due}
 use Rattle.scfs_policy.specs.declared.rank.RankFacts.{RankFacts}
 use Rattle.scfs_schedule.specs.declared.types.Call.{Call}
 use Rattle.scfs_schedule.specs.declared.types.Call.TheVariants as calls
@@ -22,10 +24,13 @@ use Rattle.scfs_model.specs.Steps.{Outcome, Of_names, Of_locks, Of_sessions}
 use Rattle.scfs_model.specs.Agents.{Agent, Opening, Waiting, For_step, For_clouds, For_close, Closed, Upload, Reaction, silent}
 use Rattle.scfs_model.specs.Opens.{reads, open_hears, open_turns, gives_up, tallied, saw, found}
 use Rattle.scfs_model.specs.Closes.{stores, upload_hears, upload_turns, with_storing}
+use Rattle.scfs_model.specs.Lives.{is_ready}
+use Rattle.scfs_model.specs.Leases.{leased, renews_due}
 use Rattle.scfs_model.specs.Calls.{call_of, called, unless_refused, close, path_names, any_names, makes, looks, opens}
 use Rattle.scfs_model.specs.Told.{tells, told, told_open, told_closed, told_commit, untold, is_pending}
 use Rattle.scfs_model.specs.Reactions.{idle, to_open, to_closed, to_upload, to_work, hears, turns, next_begun, begun}
 use Rattle.scfs_agent.specs.Settled.{settled, HasBegun, OneBegun}
+use Rattle.scfs_agent.proofs.LeaseLemmas.{renewed, told_calm}
 use Rattle.scfs_agent.proofs.SettledLemmas.{Leaves, hears_leaves, turns_leave, sighted_leaves, hears_begun, turns_begun}
 
 -- the rank rule is asked nothing
@@ -82,7 +87,7 @@ module _ (s : Setup) (a : ℕ) where
   called_unranked agent calls.Purge = refl
 
   call_unranked : (agent : Agent Row) (call : Call) (w : Option (Waiting Row)) → Unranked (call_of a s agent call w)
-  call_unranked agent call None = called_unranked agent call
+  call_unranked agent call None = if_unranked (is_ready agent.life) _ _ (called_unranked agent call) refl
   call_unranked agent call (Some waiting) = refl
 
   pub call_ranked : (agent : Agent Row) (call : Call) (w : Option (Waiting Row)) → Unranked (settled s a (call_of a s agent call w))
@@ -144,15 +149,18 @@ module _ (s : Setup) (a : ℕ) where
       to_work_unranked (λ next o. open_hears s rows a next o c request answer) (λ next x u. upload_hears s a next x u c request answer)
       (λ next o. open_hears_unranked next o c request answer) (λ next x u. upload_hears_unranked next x u c request answer) agent
 
-  pub turns_ranked : (agent : Agent Row) → Unranked (turns s rows a agent)
-  turns_ranked agent =
-      to_work_unranked (open_turns s rows a) (upload_turns s a)
+  pub turns_ranked : (agent : Agent Row) (given : Given) → Unranked (turns s rows a agent given)
+  turns_ranked agent given =
+      let first = renews_due rows a agent given.now s.header.lease in
+      let second = to_work first.agent (open_turns s rows a) (upload_turns s a) in
+      ap (λ (xs : List RankFacts). xs ++ second.ranked) (renewed a agent (filter (λ (l : Lease). is_due given.now s.header.lease l && not l.asked) agent.leases)).ranked
+      ∙ to_work_unranked (open_turns s rows a) (upload_turns s a)
       (λ next o. reads_unranked next (record o { reading = record o.reading { turns = o.reading.turns + 1 } }) (read_turn o.reading))
-      (λ next x u. stores_unranked next x (with_storing u (record u.storing { turns = u.storing.turns + 1 })) (store_turn s u.storing)) agent
+      (λ next x u. stores_unranked next x (with_storing u (record u.storing { turns = u.storing.turns + 1 })) (store_turn s u.storing)) first.agent
 
 -- what is told
 module _ (s : Setup) (a : ℕ) where
-  one_begun : (xs : List (Closed Row)) → OneBegun xs → HasBegun xs
+  pub one_begun : (xs : List (Closed Row)) → OneBegun xs → HasBegun xs
   one_begun [] h = tt
   one_begun (x ∷ []) h = h
   one_begun (x ∷ y ∷ rest) h = absurd h
@@ -177,14 +185,14 @@ module _ (s : Setup) (a : ℕ) where
   open_begun : (agent : Agent Row) (given : Given) (request : RequestNo) (h : ℕ) (r : OrRefusal (Session_outcome Row)) → HasBegun agent.closed
       → HasBegun (told_open s rows a agent given request h r).agent.closed
   open_begun agent given request h (Ok (Sees sight)) begun = subst HasBegun (sym (saw_leaves agent given request h false sight)) begun
-  open_begun agent given request h (Ok (Locks sight l)) begun = subst HasBegun (sym (saw_leaves agent given request h true sight)) begun
+  open_begun agent given request h (Ok (Locks sight l)) begun = subst HasBegun (sym (saw_leaves (leased agent h l.until) given request h true sight)) begun
   open_begun agent given request h (Ok (Completes session v n)) begun = begun
   open_begun agent given request h (Err why) begun = begun
 
   told_begun : (agent : Agent Row) (given : Given) (request : RequestNo) (o : Outcome Row) → OneBegun agent.closed
       → HasBegun (told s rows a agent given request o).agent.closed
   told_begun agent given request (Of_names x r) begun = one_begun agent.closed begun
-  told_begun agent given request (Of_locks x r) begun = one_begun agent.closed begun
+  told_begun agent given request (Of_locks x r) begun = subst HasBegun (sym (told_calm agent x r).closed) (one_begun agent.closed begun)
   told_begun agent given request (Of_sessions (Open_read names h) r) begun = open_begun agent given request h r (one_begun agent.closed begun)
   told_begun agent given request (Of_sessions (Open_write names h) r) begun = open_begun agent given request h r (one_begun agent.closed begun)
   told_begun agent given request (Of_sessions (Commit h v) r) begun = commit_begun agent agent.closed r refl begun
@@ -228,6 +236,8 @@ module _ (s : Setup) (a : ℕ) where
       to_work_begun (λ next o. open_hears s rows a next o c request answer) (λ next x u. upload_hears s a next x u c request answer)
       (λ next o. hears_leaves s a next o c request answer) (λ next x u none. hears_begun s a next x u c request answer none) agent begun
 
-  pub all_turns_begun : (agent : Agent Row) → OneBegun agent.closed → HasBegun (turns s rows a agent).agent.closed
-  all_turns_begun agent begun =
-      to_work_begun (open_turns s rows a) (upload_turns s a) (λ next o. turns_leave s a next o) (λ next x u none. turns_begun s a next x u none) agent begun
+  pub all_turns_begun : (agent : Agent Row) (given : Given) → OneBegun agent.closed → HasBegun (turns s rows a agent given).agent.closed
+  all_turns_begun agent given begun =
+      let first = renewed a agent (filter (λ (l : Lease). is_due given.now s.header.lease l && not l.asked) agent.leases) in
+      to_work_begun (open_turns s rows a) (upload_turns s a) (λ next o. turns_leave s a next o) (λ next x u none. turns_begun s a next x u none)
+      (renews_due rows a agent given.now s.header.lease).agent (subst OneBegun (sym first.closed) begun)

@@ -1,9 +1,10 @@
-ghost use Rattle.std.specs.Prelude.{◌≡◌, ◌<◌, ◌+◌, ◌*◌, ◌≤◌, [], length, filter, map, not, IfOk, OnOk};
+ghost use Rattle.std.specs.Prelude.{◌≡◌, ◌<◌, ◌+◌, ◌*◌, ◌≤◌, [], length, filter, map, not, None, IfOk, OnOk};
 ghost use Rattle.std.specs.List.{All};
 ghost use Rattle.scfs_base.specs.Limits.{contents_limit};
 ghost use Rattle.scfs_policy.specs.declared.rank.RankFacts.{RankFacts};
 ghost use Rattle.scfs_quorum_read.specs.Reading.{is_among};
 ghost use Rattle.scfs_model.specs.Layers.{rows};
+ghost use Rattle.scfs_model.specs.Leases.{unleased};
 ghost use Rattle.scfs_model.specs.Opens.{opened, begins_open, asks_gets, reads, open_hears, open_turns, gives_up, tallied, one_more};
 ghost use Rattle.scfs_agent.specs.State.{setup, given_now};
 ghost use Rattle.scfs_agent.specs.Views.{row_of, opening_of, next_of};
@@ -229,6 +230,15 @@ impl Agent {
         }
     }
 
+    /// The call for a session is given up, and its lock, if it has one, is not renewed any more.
+    pub(crate) fn give_up(&mut self, session: u64)
+        requires { IsFree self.old }
+        ensures { self.new ≡ record self.old { agent = record (unleased self.old.agent session) { waiting = None } } }
+    {
+        self.work = Work::Idle;
+        self.leases.given_back(session);
+    }
+
     /// An open is given up: its refusal, and where it has a lock, the unlock, which no call waits for.
     fn give_up_open(&mut self, fetch: &Fetch, good: u8) -> Result<Sequence<Output>, Memory>
         requires free { IsFree self.old }
@@ -240,8 +250,7 @@ impl Agent {
         }) }
         ensures asks { IfOk result (λ given. All (FitsOutput self.old.header.f) given) }
     {
-        self.work = Work::Idle;
-        self.leases.given_back(fetch.session);
+        self.give_up(fetch.session);
         let mut given = Sequence::new(self.alloc);
         if fetch.writes {
             given = self.ask(Asking::Unlock(fetch.row.id, fetch.session))?;

@@ -61,10 +61,10 @@ impl Agent {
         requires { self.old.agent.requests + 1 ≤ 2000000 * self.old.inputs }
         ensures gives { IfOk result (λ given. given ≡ outputs_of self.old
             (if_some (file_of rows self.old.agent session self.old.agent.waiting) (silent self.old.agent)
-            (renews self.old.no self.old.agent session))) }
+            (renews rows self.old.no self.old.agent session))) }
         ensures after { OnOk result (self.new ≡ record self.old {
           agent = (if_some (file_of rows self.old.agent session self.old.agent.waiting) (silent self.old.agent)
-              (renews self.old.no self.old.agent session)).agent;
+              (renews rows self.old.no self.old.agent session)).agent;
         }) }
         ensures asks { IfOk result (λ given. All (FitsOutput self.old.header.f) given) }
     {

@@ -4,6 +4,7 @@ ghost use Rattle.scfs_anchor.specs.StepReplies.{IsLockReply, FitsLocks};
 ghost use Rattle.scfs_model.specs.Lives.{Ready, is_up};
 ghost use Rattle.scfs_model.specs.Walks.{OrRefusal};
 ghost use Rattle.scfs_model.specs.LockSteps.{Lock_outcome, Unlock_all};
+ghost use Rattle.scfs_model.specs.Layers.{rows};
 ghost use Rattle.scfs_model.specs.Reactions.{crashes, starts};
 ghost use Rattle.scfs_model.specs.Told.{told_start};
 ghost use Rattle.scfs_agent.specs.State.{setup};
@@ -23,8 +24,8 @@ use scfs_tuples::{Reply, StepResult};
 impl Agent {
     /// It goes down, and loses all but the numbers that it drew.
     pub(crate) fn crash(&mut self) -> Result<Sequence<Output>, Memory>
-        ensures gives { IfOk result (λ given. given ≡ outputs_of self.old (crashes (setup self.old) self.old.agent)) }
-        ensures after { OnOk result (self.new ≡ record self.old { agent = (crashes (setup self.old) self.old.agent).agent }) }
+        ensures gives { IfOk result (λ given. given ≡ outputs_of self.old (crashes (setup self.old) rows self.old.no self.old.agent)) }
+        ensures after { OnOk result (self.new ≡ record self.old { agent = (crashes (setup self.old) rows self.old.no self.old.agent).agent }) }
         ensures asks { IfOk result (λ given. All (FitsOutput self.old.header.f) given) }
     {
         self.sessions = Sessions::new(self.alloc)?;
@@ -39,8 +40,8 @@ impl Agent {
     pub(crate) fn start(&mut self) -> Result<Sequence<Output>, Memory>
         requires room { HasRoom self.old }
         requires down { is_up self.old.agent.life ≡ false }
-        ensures gives { IfOk result (λ given. given ≡ outputs_of self.old (starts self.old.no self.old.agent)) }
-        ensures after { OnOk result (self.new ≡ record self.old { agent = (starts self.old.no self.old.agent).agent }) }
+        ensures gives { IfOk result (λ given. given ≡ outputs_of self.old (starts (setup self.old) rows self.old.no self.old.agent)) }
+        ensures after { OnOk result (self.new ≡ record self.old { agent = (starts (setup self.old) rows self.old.no self.old.agent).agent }) }
         ensures asks { IfOk result (λ given. All (FitsOutput self.old.header.f) given) }
     {
         self.work = Work::Starting;

@@ -257,8 +257,7 @@ impl Agent {
         }) }
         ensures asks { IfOk result (λ given. All (FitsOutput self.old.header.f) given) }
     {
-        self.work = Work::Idle;
-        self.leases.given_back(upload.session);
+        self.give_up(upload.session);
         let mut given = self.ask(Asking::Unlock(upload.left.id, upload.session))?;
         given.push(Output::Line(Line::No(self.no, Refusal::Short(acked))))?;
         Ok(given)
