@@ -106,10 +106,11 @@ module _ (was old : WorldState) (same : was ≡ old) (world : IsWorld old) (even
       alone shown (λ state. moved_is was state event n is ∙ ap (leaving state) (sym (line ∙ ap moved_lines given)))
 
 -- the clock goes on
-pub later_does : (was old : WorldState) (same : was ≡ old) (ticks : ℕ) → IsWorld old → ticks ≤ 1000000000
-    → DoesAlone old (record was { clock = was.clock + ticks }) (events.Tick ticks) (Ok [])
-later_does was old same ticks world few =
+pub later_does : (was old : WorldState) (same : was ≡ old) (ticks : ℕ) → IsWorld old → ticks ≤ 1000000000 → (shown : List Line) → shown ≡ []
+    → DoesAlone old (record was { clock = was.clock + ticks }) (events.Tick ticks) (Ok shown)
+later_does was old same ticks world few shown none =
     let w : IsWorld was = subst IsWorld (sym same) world in
-    subst (λ v. DoesAlone v (record was { clock = was.clock + ticks }) (events.Tick ticks) (Ok [])) same
-    (alone_does was (events.Tick ticks) (was.clock + ticks) was.net [] w (omega arith) (omega (arith, w.clock, few)) refl refl w.carried
-    (λ state shows. ap (λ t. leaving (record state { clock = t + ticks }) []) (sym shows.clock)))
+    subst (λ v. DoesAlone v (record was { clock = was.clock + ticks }) (events.Tick ticks) (Ok shown)) same
+    (alone_does was (events.Tick ticks) (was.clock + ticks) was.net shown w (omega arith) (omega (arith, w.clock, few)) refl refl w.carried
+    (λ state shows. ap (λ t. leaving (record state { clock = t + ticks }) []) (sym shows.clock)
+    ∙ ap (leaving (record state { clock = was.clock + ticks })) (sym none)))

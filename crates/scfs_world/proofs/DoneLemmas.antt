@@ -15,10 +15,11 @@ use Rattle.scfs_agent.specs.State.{AgentState}
 use Rattle.scfs_agent.specs.declared.types.Input.{Input}
 use Rattle.scfs_agent.specs.declared.types.Input.TheVariants as inputs
 use Rattle.scfs_agent.specs.declared.types.Output.{Output}
-use Rattle.scfs_world.specs.Doing.{steps_out, lines_out, net_with, IsGiven, IsDone, IsTooMuch, Says, ComesIf, TellsOldest, ServesOldest, PostponesOldest}
+use Rattle.scfs_world.specs.Doing.{steps_out, lines_out, net_with, IsGiven, IsDone, IsTooMuch, Says, Comes, ComesIf, TellsOldest, ServesOldest, PostponesOldest}
 use Rattle.scfs_world.specs.Seating.{KeepsReady}
 use Rattle.scfs_world.specs.State.{SeatState}
 use Rattle.scfs_world.specs.declared.fault.StepFault.{StepFault}
+use Rattle.scfs_world.specs.declared.fault.StepFault.TheVariants as faults
 use Rattle.scfs_world.specs.declared.seat.StepAsked.{StepAsked}
 use Rattle.scfs_world.specs.declared.seat.StepReply.{StepReply}
 use Rattle.scfs_world.proofs.OutputLemmas.{length-net_with, all_steps}
@@ -32,9 +33,12 @@ module _ {allows : RankFacts → ℕ → Type 0} (now : ℕ) (input : Input) (wa
       subst (λ s. IsDone allows now input before s new net after shown) same
       (record { given = given; it = it; asked = asked; replied = replied; sent = sent; lines = lines; carried = carried })
 
-  pub too_much_from : (is : AgentState) (given : List Output) → IsGiven allows now input was.agent is given → carried_limit < (net_with net given).carried
-      → IsTooMuch allows now input old net
-  too_much_from is given it more = subst (λ s. IsTooMuch allows now input s net) same (record { is = is; given = given; it = it; more = more })
+  pub fault_from : (before : List Line) (new : SeatState) (after : NetState) (is : AgentState) (given : List Output) → IsGiven allows now input was.agent is given
+      → (fault : StepFault) → (fault ≡ faults.TooLarge → carried_limit < (net_with net given).carried)
+      → Comes allows now old new net after input before (Err fault)
+  fault_from before new after is given it faults.TooLarge more =
+      subst (λ s. IsTooMuch allows now input s net) same (record { is = is; given = given; it = it; more = more refl })
+  fault_from before new after is given it faults.Memory more = tt
 
 -- a step that waits is a step
 abbrev IsAsked : StepAsked → Type 0

@@ -6,7 +6,9 @@ use Rattle.scfs_tuples.specs.declared.types.Reply.{Reply}
 use Rattle.scfs_tuples.specs.declared.types.Step as tuples
 use Rattle.scfs_tuples.specs.declared.types.StepResult.{StepResult}
 use Rattle.scfs_anchor.specs.Items.{row_said}
+use Rattle.scfs_anchor.specs.Plans.{step_of}
 use Rattle.scfs_anchor.specs.Replies.{ShowsSight, sight_of}
+use Rattle.scfs_anchor.specs.StepPlans.{session_plan}
 use Rattle.scfs_anchor.specs.StepReplies.{IsRefusal, IsReplyTo, IsSessionReply, FitsOutcome, FitsSessions, FitsSight, FitsVersion, sight_said}
 use Rattle.scfs_anchor.proofs.ReplyLemmas.{sight_read}
 use Rattle.scfs_model.specs.Layers.{Row}
@@ -31,15 +33,15 @@ refused_fits step why result (index, found, is, said) = subst (λ r. FitsSeen (s
 module _ (lease : ℕ) (request : RequestNo) (reply : Reply) where
   session_fits : (x : Session_step Row) (r : OrRefusal (Session_outcome Row)) → IsSessionReply lease request x r reply → FitsSessions x r
       → is_open (On_sessions x) ≡ true → FitsSeen (sight_of reply.result)
-  session_fits x (Err why) is fits opens = refused_fits _ why reply.result is
+  session_fits x (Err why) is fits opens = refused_fits (step_of (session_plan lease request x)) why reply.result is
   session_fits (Open_read names h) (Ok (Sees sight)) is fits opens = seen_fits sight reply is fits
   session_fits (Open_write names h) (Ok (Locks sight l)) is fits opens = seen_fits sight reply is.0 fits.0
-  session_fits (Commit h v) (Ok o) is fits opens = absurd opens
+  session_fits (Commit h v) (Ok o) is fits opens = cc
   session_fits x (Ok other) is fits opens = absurd is
 
   outcome_fits : (o : Outcome Row) → IsReplyTo lease request o reply → FitsOutcome o → is_open (outcome_step o) ≡ true → FitsSeen (sight_of reply.result)
-  outcome_fits (Of_names x r) is fits opens = absurd opens
-  outcome_fits (Of_locks x r) is fits opens = absurd opens
+  outcome_fits (Of_names x r) is fits opens = cc
+  outcome_fits (Of_locks x r) is fits opens = cc
   outcome_fits (Of_sessions x r) is fits opens = session_fits x r is fits opens
 
   its_fits : (p : Option (Request Row)) (o : Outcome Row) → IsReplyTo lease request o reply → FitsOutcome o → IsIts p (outcome_step o) → FitsReply p reply

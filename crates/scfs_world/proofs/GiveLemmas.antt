@@ -29,7 +29,7 @@ first_is [] = refl
 first_is (x ∷ xs) = refl
 
 -- code has seen the world so, and took this off the replies of the cloud
-module _ (was old : WorldState) (same : was ≡ old) (world : IsWorld old) (allows : RankFacts → ℕ → Type 0) (c : ℕ) (given : Option Given)
+module _ (was old : WorldState) (same : was ≡ old) (world : IsWorld old) (c : ℕ) (given : Option Given)
     (is : given ≡ slice_get (cloud_at was.net c).replies 0) (after : NetState) (taken : after ≡ moved_by (events.Give c) was.net) where
   -- what the machine does
   abbrev Gives : State Row → (ranks : List ℕ) → Option Given → Effect Row
@@ -50,23 +50,23 @@ module _ (was old : WorldState) (same : was ≡ old) (world : IsWorld old) (allo
   as_many = ap (λ (n : NetState). length n.clouds) taken ∙ moved_length was.net (events.Give c)
 
   -- it goes to no one
-  to_no_one : (shown : List Line) → ((state : State Row) → Shows was state → Gives state [] given ≡ leaving state shown)
+  to_no_one : (allows : RankFacts → ℕ → Type 0) (shown : List Line) → ((state : State Row) → Shows was state → Gives state [] given ≡ leaving state shown)
       → Does allows old (record was { net = after }) (events.Give c) (Ok shown)
-  to_no_one shown none =
+  to_no_one allows shown none =
       subst (λ w. Does allows w (record was { net = after }) (events.Give c) (Ok shown)) same
       (does_alone allows was (record was { net = after }) (events.Give c) (Ok shown)
       (alone_does was (events.Give c) was.clock after shown world_was (le_refl _) (omega (arith, world_was.clock)) taken as_many few
       (λ state shows. gives_is state [] ∙ none state shows ∙ ap (λ t. leaving (record state { clock = t }) shown) (sym shows.clock))))
 
-  pub none_does : (shown : List Line) → given ≡ None → shown ≡ lines.Skip ∷ [] → Does allows old (record was { net = after }) (events.Give c) (Ok shown)
-  none_does shown none line = to_no_one shown (λ state shows. ap (Gives state []) none ∙ ap (leaving state) (sym line))
+  pub none_does : (allows : RankFacts → ℕ → Type 0) (shown : List Line) → given ≡ None → shown ≡ lines.Skip ∷ [] → Does allows old (record was { net = after }) (events.Give c) (Ok shown)
+  none_does allows shown none line = to_no_one allows shown (λ state shows. ap (Gives state []) none ∙ ap (leaving state) (sym line))
 
   module _ (it : Given) (there : given ≡ Some it) where
     -- the agent that asked is none of the run
-    pub far_does : (shown : List Line) → length was.seats ≤ it.request.agent → shown ≡ []
+    pub far_does : (allows : RankFacts → ℕ → Type 0) (shown : List Line) → length was.seats ≤ it.request.agent → shown ≡ []
         → Does allows old (record was { net = after }) (events.Give c) (Ok shown)
-    far_does shown far line =
-        to_no_one shown (λ state shows.
+    far_does allows shown far line =
+        to_no_one allows shown (λ state shows.
         let none : slice_get state.seats it.request.agent ≡ None =
         slice_get_past state.seats it.request.agent (omega (arith, far, same_length (ShowsSeat was.header) 0 was.seats state.seats shows.seats)) in
         ap (Gives state []) there ∙ ap (λ o. if_some o (leaving state []) (answer_at c it.request it.answer was.header it.request.agent state [])) none
@@ -100,10 +100,10 @@ module _ (was old : WorldState) (same : was ≡ old) (world : IsWorld old) (allo
       pub near_ready : IsReady 999999 seat.agent seat.asked after
       near_ready = code_ready was after i seat here
 
-      pub near_does : (end : SeatState) (left : NetState) (result : Result (List Line) StepFault)
+      pub near_does : (allows : RankFacts → ℕ → Type 0) (end : SeatState) (left : NetState) (result : Result (List Line) StepFault)
           → ((space : List Tuple) → SeatDoes allows was.clock (answer_at c it.request it.answer)
           (record { seat = seat; space = space; net = after }) (record { seat = end; space = space; net = left }) result)
           → Does allows old (record was { seats = slice_set was.seats i end; net = left }) (events.Give c) result
-      near_does end left result did =
+      near_does allows end left result did =
           subst (λ w. Does allows w (record was { seats = slice_set was.seats i end; net = left }) (events.Give c) result) same
           (seat_does was after i seat here allows (events.Give c) (answer_at c it.request it.answer) (sym taken) equal end was.space left result (did was.space))

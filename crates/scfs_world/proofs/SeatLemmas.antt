@@ -34,7 +34,7 @@ use Rattle.scfs_agent.specs.declared.types.Input.{Input}
 use Rattle.scfs_agent.specs.declared.types.Input.TheVariants as inputs
 use Rattle.scfs_agent.specs.declared.types.Output.{Output}
 use Rattle.scfs_world.specs.Doing.{ComesTo, can_come, input_of, Says, ComesIf, Brings, ComesBack, FitsOldest, TellsOldest, ServesOldest, PostponesOldest}
-use Rattle.scfs_world.specs.Seating.{Around, IsAt, Leaves, Becomes, SeatDoes, IsShownAt, event_at, answer_at}
+use Rattle.scfs_world.specs.Seating.{Around, IsAt, Leaves, Becomes, SeatDoes, IsShownAt, IsAtSeat, event_at, answer_at}
 use Rattle.scfs_world.specs.Shows.{Together, step_asked, CanBeServed, ShowsReply, ShowsSeat}
 use Rattle.scfs_world.specs.State.{SeatState}
 use Rattle.scfs_world.specs.Whole.{IsOfIts}
@@ -51,6 +51,30 @@ pub set_same : {X : Type 0} (xs : List X) (a : ℕ) (x : X) → slice_get xs a �
 set_same [] a x there = cc
 set_same (z ∷ xs) zero x there = let same : z ≡ x = cc in ap (λ w. w ∷ xs) (sym same)
 set_same (z ∷ xs) (suc a) x there = ap (λ ws. z ∷ ws) (set_same xs a x there)
+
+-- a reply that waits at a seat that is shown is told as that of its step, and its numbers fit
+
+module _ (header : Header) (a : ℕ) (old : SeatState) (m : Seat Row) (shows : ShowsSeat header a old m) where
+  is_told : (x : StepReply) (y : Reply Row) → ShowsReply header.lease x y → IsOfIts m.agent.pending y
+      → IsTold old.agent.header.lease old.agent.agent.pending x.request x.reply y.outcome
+  is_told x y it own =
+      subst (λ (h : Header). IsTold h.lease old.agent.agent.pending x.request x.reply y.outcome) (sym shows.by_header)
+      (subst (λ (g : Agent Row). IsTold header.lease g.pending x.request x.reply y.outcome) (sym shows.agent)
+      (subst (λ n. IsTold header.lease m.agent.pending n x.reply y.outcome) (sym it.number)
+      (record { replied = it.replied; fits = it.fits; asked = own })))
+
+  fits_oldest : (xs : List StepReply) (ys : List (Reply Row)) → Together (λ n. ShowsReply header.lease) 0 xs ys → Each (IsOfIts m.agent.pending) ys
+      → FitsOldest old.agent xs
+  fits_oldest [] ys t own = tt
+  fits_oldest (x ∷ xs) [] t own = absurd t
+  fits_oldest (x ∷ xs) (y ∷ ys) t own =
+      told_fits old.agent.header.lease old.agent.agent.pending x.request x.reply y.outcome (is_told x y t.0 own.0)
+
+pub shown_fits : (now : ℕ) (space : List Tuple) (old : SeatState) (net : NetState) → IsShownAt now (record { seat = old; space = space; net = net })
+    → FitsOldest old.agent old.replied
+shown_fits now space old net (header, a, most, state, m, at) = fits_oldest header a old m at.seat old.replied m.replied at.seat.replied at.whole.own
+
+-- what was done, at a seat that is shown
 
 module _ (allows : RankFacts → ℕ → Type 0) (now : ℕ) (space : List Tuple) (new : SeatState) (net after : NetState) (header : Header) (a most : ℕ)
     (state : State Row) (result : Result (List Line) StepFault) where
@@ -125,22 +149,6 @@ module _ (allows : RankFacts → ℕ → Type 0) (now : ℕ) (space : List Tuple
     brings_does (events.Start c) b of d = come_by inputs.Start Starts not (λ is given k. k) d
     brings_does other b of d = absurd of
 
-    -- a reply that is told
-    is_told : (x : StepReply) (y : Reply Row) → ShowsReply header.lease x y → IsOfIts m.agent.pending y
-        → IsTold old.agent.header.lease old.agent.agent.pending x.request x.reply y.outcome
-    is_told x y it own =
-        subst (λ (h : Header). IsTold h.lease old.agent.agent.pending x.request x.reply y.outcome) (sym at.seat.by_header)
-        (subst (λ (g : Agent Row). IsTold header.lease g.pending x.request x.reply y.outcome) (sym at.seat.agent)
-        (subst (λ n. IsTold header.lease m.agent.pending n x.reply y.outcome) (sym it.number)
-        (record { replied = it.replied; fits = it.fits; asked = own })))
-
-    pub fits_oldest : (xs : List StepReply) (ys : List (Reply Row)) → Together (λ n. ShowsReply header.lease) 0 xs ys → Each (IsOfIts m.agent.pending) ys
-        → FitsOldest old.agent xs
-    fits_oldest [] ys t own = tt
-    fits_oldest (x ∷ xs) [] t own = absurd t
-    fits_oldest (x ∷ xs) (y ∷ ys) t own =
-        told_fits old.agent.header.lease old.agent.agent.pending x.request x.reply y.outcome (is_told x y t.0 own.0)
-
     pub tells_does : (xs : List StepReply) (ys : List (Reply Row)) → Together (λ n. ShowsReply header.lease) 0 xs ys → Each (IsOfIts m.agent.pending) ys
         → TellsOldest allows now old new net after xs result
         → Done (λ ranks. tells (under header) rows state a (record { now = state.clock; ranks = ranks }) m ys)
@@ -159,7 +167,7 @@ module _ (allows : RankFacts → ℕ → Type 0) (now : ℕ) (space : List Tuple
         subst (λ n. Done (λ ranks. comes_back (under header) rows state a (record { now = state.clock; ranks = ranks }) n []
         (Tells n y.outcome) (record m { replied = ys }))) t.0.number
         (back_does (record old { replied = xs }) (record m { replied = ys }) rest at.space (inputs.Space x.request x.reply) (Tells x.request y.outcome) []
-        at.clock (λ is given reacts. reacts y.outcome (is_told x y t.0 own.0)) x.request d)
+        at.clock (λ is given reacts. reacts y.outcome (is_told header a old m at.seat x y t.0 own.0)) x.request d)
 
 -- steps served and postponed, by what waits
 
@@ -235,16 +243,23 @@ module _ (allows : RankFacts → ℕ → Type 0) (now : ℕ) (space left : List 
     },
   )
 
+-- an event at a seat that is none between its agent and the space comes to the agent
+pub comes_to : (event : Event) (b : ℕ) → IsAtSeat b event → ((a : ℕ) → ¬ (event ≡ events.Space a)) → ((a : ℕ) → ¬ (event ≡ events.Later a))
+    → ((a : ℕ) → ¬ (event ≡ events.Told a)) → ComesTo b event
+comes_to (events.Space a) b at no_space no_later no_told = absurd (no_space a refl)
+comes_to (events.Later a) b at no_space no_later no_told = absurd (no_later a refl)
+comes_to (events.Told a) b at no_space no_later no_told = absurd (no_told a refl)
+comes_to (events.Call a call) b at no_space no_later no_told = at
+comes_to (events.Turn a) b at no_space no_later no_told = at
+comes_to (events.Crash a) b at no_space no_later no_told = at
+comes_to (events.Start a) b at no_space no_later no_told = at
+comes_to other b at no_space no_later no_told = absurd at
+
 -- at the seat, whatever is shown there
 
 module _ (allows : RankFacts → ℕ → Type 0) (now : ℕ) (space : List Tuple) (old new : SeatState) (net : NetState) where
   abbrev At : Around
   At = record { seat = old; space = space; net = net }
-
-  -- where a seat is shown, its oldest reply fits
-  pub shown_fits : IsShownAt now At → FitsOldest old.agent old.replied
-  shown_fits (header, a, most, state, m, at) =
-      fits_oldest allows now space old net net header a most state (Err faults.Memory) old m at old.replied m.replied at.seat.replied at.whole.own
 
   module _ (carried : net.carried ≤ carried_limit) (event : Event) (b : ℕ) where
     pub serve_does : event ≡ events.Space b → (left : List Tuple) (shown : List Line) → ServesOldest now old new space left shown old.asked

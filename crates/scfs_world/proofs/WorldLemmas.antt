@@ -33,9 +33,12 @@ read_seat : (seats : List SeatState) (i : ℕ) (seat : SeatState) → i < length
 read_seat seats i seat within is = slice_get-get_or seats i seat within ∙ ap Some (sym is)
 
 -- what holds of it
-pub seat_there : (P : SeatState → Type 0) (seats : List SeatState) (i : ℕ) (seat : SeatState) → i < length seats → seat ≡ get_or seats i seat → P seat
-    → IfSome (slice_get seats i) P
-seat_there P seats i seat within is h = subst (λ o. IfSome o P) (sym (read_seat seats i seat within is)) h
+pub seat_there : (P : SeatState → Type 0) (was old : WorldState) → was ≡ old → (a i : ℕ) (seat : SeatState) → i ≡ a → seat ≡ get_or was.seats i seat
+    → a < length old.seats → P seat → IfSome (slice_get old.seats a) P
+seat_there P was old same a i seat from is within h =
+    subst (λ (w : WorldState). IfSome (slice_get w.seats a) P) same
+    (subst (λ n. IfSome (slice_get was.seats n) P) from (subst (λ o. IfSome o P)
+    (sym (read_seat was.seats i seat (omega (arith, within, from, ap (λ (w : WorldState). length w.seats) same)) is)) h))
 
 -- a seat of a world that is given an event; the clouds may have had their part of it already
 pub record Reads (w : WorldState) (net : NetState) (a : ℕ) (seat : SeatState) : Type 0 where
@@ -105,33 +108,31 @@ module _ (w : WorldState) (net : NetState) (a : ℕ) (seat : SeatState) (h : Rea
         let t = its state shows whole in
         let k = did.0 w.header a w.events state t.other (is_at state shows whole) in
         let x : Effect Row = does w.header a state k.0 t.other in
-        let left : Leaves w.header a w.clock w.events Then net shown state x = k.2 in (
-          k.0,
-          subst (λ (y : Effect Row). Answers allows y.ranked k.0 × DoesIt w (counted (Set end space after)) event shown y) (sym (same state t.other k.0 t.there)) (
-            k.1,
-            record {
-              lines = left.lines;
-              shows = record {
-                clock = shows.clock ∙ sym left.clock;
-                space = left.space;
-                seats = subst (Together (ShowsSeat w.header) 0 (slice_set w.seats a end)) (sym left.seats)
-                    (set_both (ShowsSeat w.header) 0 a a w.seats state.seats end left.m (omega arith) left.seat shows.seats);
-              };
-              clouds = left.sent ∙ ap (λ n. all_asked n x.sent) (sym moved);
-            },
-          ),
-        )
+        let left : Leaves w.header a w.clock w.events Then net shown state x = k.2 in
+        let both = subst (λ (y : Effect Row). Answers allows y.ranked k.0 × DoesIt w (counted (Set end space after)) event shown y)
+        (sym (same state t.other k.0 t.there)) (
+          k.1,
+          record {
+            lines = left.lines;
+            shows = record {
+              clock = shows.clock ∙ sym left.clock;
+              space = left.space;
+              seats = subst (Together (ShowsSeat w.header) 0 (slice_set w.seats a end)) (sym left.seats)
+                  (set_both (ShowsSeat w.header) 0 a a w.seats state.seats end left.m (omega arith) left.seat shows.seats);
+            };
+            clouds = left.sent ∙ ap (λ n. all_asked n x.sent) (sym moved);
+          },
+        ) in
+        (k.0, both.0, both.1)
 
     passes : SeatDoes allows w.clock does At Then (Err faults.TooLarge) → IsTooLarge allows w event
     passes did state shows whole =
         let t = its state shows whole in
-        let k = did.0 w.header a w.events state t.other (is_at state shows whole) in (
-          k.0,
-          subst (λ (y : Effect Row). Answers allows y.ranked k.0 × (carried_limit < (net_after w event y).carried)) (sym (same state t.other k.0 t.there)) (
-            k.1,
-            subst (λ n. carried_limit < (all_asked n (does w.header a state k.0 t.other).sent).carried) (sym moved) k.2,
-          ),
-        )
+        let k = did.0 w.header a w.events state t.other (is_at state shows whole) in
+        let both = subst (λ (y : Effect Row). Answers allows y.ranked k.0 × (carried_limit < (net_after w event y).carried))
+        (sym (same state t.other k.0 t.there))
+        (k.1, subst (λ n. carried_limit < (all_asked n (does w.header a state k.0 t.other).sent).carried) (sym moved) k.2) in
+        (k.0, both.0, both.1)
 
     keeps : KeepsReady seat.agent seat.asked net end.agent end.asked after → Keeps w (Set end space after)
     keeps kept =

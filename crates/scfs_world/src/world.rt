@@ -1,4 +1,4 @@
-ghost use Rattle.std.specs.Prelude.{◌≡◌, ◌≢◌, ◌+◌, ◌*◌, ◌<◌, ◌↔◌, [], length, true, slice_get, IfErr, IfOk, IfSome, IsTrue, Ok, is_some};
+ghost use Rattle.std.specs.Prelude.{◌≡◌, ◌≢◌, ◌+◌, ◌*◌, ◌<◌, ◌≤◌, ◌↔◌, [], length, true, slice_get, IfErr, IfOk, IfSome, IsTrue, Ok, is_some};
 ghost use Rattle.std.specs.Option.{option_copied, option_map};
 ghost use Rattle.scfs_net.specs.Queues.{cloud_at};
 ghost use Rattle.scfs_policy.specs.Rank.{IsRankRule};

@@ -1,10 +1,10 @@
-use Rattle.std.proofs.Common.{◌≢◌, ◌↔◌, [], IsTrue}
-use Rattle.scfs_world.specs.State.{SeatState}
+use Rattle.std.proofs.Common.{◌≡◌, ◌≢◌, ◌↔◌, [], length, IsTrue, arith, subst, ap}
+use Rattle.scfs_world.specs.State.{SeatState, WorldState}
 use Rattle.scfs_world.specs.contracts.world.World.{the_view}
 use Rattle.scfs_world.proofs.WorldLemmas.{seat_there}
 use Rattle.scfs_world.proofs.world.World.space_reply.Goals as goal
 
 pub returns : goal.returns
 returns c =
-    seat_there (λ (seat : SeatState). IsTrue c.replies.result ↔ (seat.replied ≢ [])) (the_view c.self.inside) c.args.self.now c.args.agent c.from.result
-    c.index.result.now c.self.view_is c.from.ensures c.index.ensures c.requires c.replies.ensures
+    seat_there (λ (seat : SeatState). IsTrue c.replies.result ↔ (seat.replied ≢ [])) (the_view c.self.inside) c.args.self.now c.self.view_is c.args.agent
+    c.from.result c.index.result.now c.from.ensures c.index.ensures c.requires c.replies.ensures
