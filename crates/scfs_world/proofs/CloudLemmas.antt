@@ -26,16 +26,19 @@ use Rattle.scfs_world.proofs.WorldLemmas.{alone_does}
 
 -- a message that is answered, lost, moved or repeated leaves agents and tree
 
-answers_leave : (s : Setup) (state : State Row) (c : ℕ) (message : Option Message) → answers_by s state c message ≡ leaving state (answers_by s state c message).lines
+answers_leave : (s : Setup) (state : State Row) (c : ℕ) (message : Option Message)
+    → answers_by s state c message ≡ leaving state (answers_by s state c message).lines
 answers_leave s state c None = refl
 answers_leave s state c (Some (Of_request request)) = refl
 answers_leave s state c (Some (Of_answer request answer)) = refl
 
-requests_leave : (state : State Row) (waiting : List request.Asked) → moves state (request_message (first_of waiting)) ≡ leaving state (moved_lines (moved waiting))
+requests_leave : (state : State Row) (waiting : List request.Asked)
+    → moves state (request_message (first_of waiting)) ≡ leaving state (moved_lines (moved waiting))
 requests_leave state [] = refl
 requests_leave state (x ∷ xs) = refl
 
-replies_leave : (state : State Row) (waiting : List reply.Given) → moves state (reply_message (first_of waiting)) ≡ leaving state (moved_lines (moved waiting))
+replies_leave : (state : State Row) (waiting : List reply.Given)
+    → moves state (reply_message (first_of waiting)) ≡ leaving state (moved_lines (moved waiting))
 replies_leave state [] = refl
 replies_leave state (x ∷ xs) = refl
 
@@ -49,7 +52,8 @@ module _ (old : WorldState) (state : State Row) where
   answered_is other n is = absurd is
 
   -- a cloud's answer, with the lines that code read off it
-  pub answered_leaves : (event : Event) (n c : ℕ) (did : Option Did) (shown : List Line) → Answers n event → c ≡ cloud_of event → did ≡ did_of event old.net
+  pub answered_leaves : (event : Event) (n c : ℕ) (did : Option Did) (shown : List Line) → Answers n event → c ≡ cloud_of event
+      → did ≡ did_of event old.net
       → shown ≡ (answers_by (under old.header) state c (did_message did)).lines → effect_on old state event [] ≡ leaving state shown
   answered_leaves event n c did shown is at same line =
       answered_is event n is ∙ ap (λ d. answers_by (under old.header) state (cloud_of event) (did_message d)) (sym same)
@@ -82,7 +86,8 @@ moved_length net (events.Twice c) = length-set net.clouds c _
 moved_length net other = refl
 
 -- code has seen the world so, and leaves its clouds so
-module _ (was old : WorldState) (same : was ≡ old) (world : IsWorld old) (event : Event) (after : NetState) (moves_to : after ≡ moved_by event was.net)
+module _ (was old : WorldState) (same : was ≡ old) (world : IsWorld old) (event : Event) (after : NetState)
+    (moves_to : after ≡ moved_by event was.net)
     (few : (moved_by event was.net).carried ≤ carried_limit) where
   alone : (shown : List Line) → ((state : State Row) → effect_on was state event [] ≡ leaving state shown)
       → DoesAlone old (record was { net = after }) event (Ok shown)

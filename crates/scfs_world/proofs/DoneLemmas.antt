@@ -33,7 +33,8 @@ module _ {allows : RankFacts → ℕ → Type 0} (now : ℕ) (input : Input) (wa
       subst (λ s. IsDone allows now input before s new net after shown) same
       (record { given = given; it = it; asked = asked; replied = replied; sent = sent; lines = lines; carried = carried })
 
-  pub fault_from : (before : List Line) (new : SeatState) (after : NetState) (is : AgentState) (given : List Output) → IsGiven allows now input was.agent is given
+  pub fault_from : (before : List Line) (new : SeatState) (after : NetState) (is : AgentState) (given : List Output)
+      → IsGiven allows now input was.agent is given
       → (fault : StepFault) → (fault ≡ faults.TooLarge → carried_limit < (net_with net given).carried)
       → Comes allows now old new net after input before (Err fault)
   fault_from before new after is given it faults.TooLarge more =

@@ -39,15 +39,18 @@ module _ (lease : ℕ) (request : RequestNo) (reply : Reply) where
   session_fits (Commit h v) (Ok o) is fits opens = cc
   session_fits x (Ok other) is fits opens = absurd is
 
-  outcome_fits : (o : Outcome Row) → IsReplyTo lease request o reply → FitsOutcome o → is_open (outcome_step o) ≡ true → FitsSeen (sight_of reply.result)
+  outcome_fits : (o : Outcome Row) → IsReplyTo lease request o reply → FitsOutcome o → is_open (outcome_step o) ≡ true
+      → FitsSeen (sight_of reply.result)
   outcome_fits (Of_names x r) is fits opens = cc
   outcome_fits (Of_locks x r) is fits opens = cc
   outcome_fits (Of_sessions x r) is fits opens = session_fits x r is fits opens
 
-  its_fits : (p : Option (Request Row)) (o : Outcome Row) → IsReplyTo lease request o reply → FitsOutcome o → IsIts p (outcome_step o) → FitsReply p reply
+  its_fits : (p : Option (Request Row)) (o : Outcome Row) → IsReplyTo lease request o reply → FitsOutcome o → IsIts p (outcome_step o)
+      → FitsReply p reply
   its_fits None o is fits its = tt
   its_fits (Some x) o is fits its = λ opens. outcome_fits o is fits (ap is_open (sym its) ∙ opens)
 
-pub told_fits : (lease : ℕ) (pending : List (Request Row)) (request : RequestNo) (reply : Reply) (o : Outcome Row) → IsTold lease pending request reply o
+pub told_fits : (lease : ℕ) (pending : List (Request Row)) (request : RequestNo) (reply : Reply) (o : Outcome Row)
+    → IsTold lease pending request reply o
     → FitsReply (pending_step pending request) reply
 told_fits lease pending request reply o told = its_fits lease request reply (pending_step pending request) o told.replied told.fits told.asked

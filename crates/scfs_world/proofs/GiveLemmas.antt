@@ -50,7 +50,8 @@ module _ (was old : WorldState) (same : was ≡ old) (world : IsWorld old) (c : 
   as_many = ap (λ (n : NetState). length n.clouds) taken ∙ moved_length was.net (events.Give c)
 
   -- it goes to no one
-  to_no_one : (allows : RankFacts → ℕ → Type 0) (shown : List Line) → ((state : State Row) → Shows was state → Gives state [] given ≡ leaving state shown)
+  to_no_one : (allows : RankFacts → ℕ → Type 0) (shown : List Line)
+      → ((state : State Row) → Shows was state → Gives state [] given ≡ leaving state shown)
       → Does allows old (record was { net = after }) (events.Give c) (Ok shown)
   to_no_one allows shown none =
       subst (λ w. Does allows w (record was { net = after }) (events.Give c) (Ok shown)) same
@@ -58,7 +59,8 @@ module _ (was old : WorldState) (same : was ≡ old) (world : IsWorld old) (c : 
       (alone_does was (events.Give c) was.clock after shown world_was (le_refl _) (omega (arith, world_was.clock)) taken as_many few
       (λ state shows. gives_is state [] ∙ none state shows ∙ ap (λ t. leaving (record state { clock = t }) shown) (sym shows.clock))))
 
-  pub none_does : (allows : RankFacts → ℕ → Type 0) (shown : List Line) → given ≡ None → shown ≡ lines.Skip ∷ [] → Does allows old (record was { net = after }) (events.Give c) (Ok shown)
+  pub none_does : (allows : RankFacts → ℕ → Type 0) (shown : List Line) → given ≡ None → shown ≡ lines.Skip ∷ []
+      → Does allows old (record was { net = after }) (events.Give c) (Ok shown)
   none_does allows shown none line = to_no_one allows shown (λ state shows. ap (Gives state []) none ∙ ap (leaving state) (sym line))
 
   module _ (it : Given) (there : given ≡ Some it) where
@@ -69,7 +71,8 @@ module _ (was old : WorldState) (same : was ≡ old) (world : IsWorld old) (c : 
         to_no_one allows shown (λ state shows.
         let none : slice_get state.seats it.request.agent ≡ None =
         slice_get_past state.seats it.request.agent (omega (arith, far, same_length (ShowsSeat was.header) 0 was.seats state.seats shows.seats)) in
-        ap (Gives state []) there ∙ ap (λ o. if_some o (leaving state []) (answer_at c it.request it.answer was.header it.request.agent state [])) none
+        ap (Gives state []) there
+        ∙ ap (λ o. if_some o (leaving state []) (answer_at c it.request it.answer was.header it.request.agent state [])) none
         ∙ ap (leaving state) (sym line))
 
     -- or it is one
@@ -106,4 +109,5 @@ module _ (was old : WorldState) (same : was ≡ old) (world : IsWorld old) (c : 
           → Does allows old (record was { seats = slice_set was.seats i end; net = left }) (events.Give c) result
       near_does allows end left result did =
           subst (λ w. Does allows w (record was { seats = slice_set was.seats i end; net = left }) (events.Give c) result) same
-          (seat_does was after i seat here allows (events.Give c) (answer_at c it.request it.answer) (sym taken) equal end was.space left result (did was.space))
+          (seat_does was after i seat here allows (events.Give c) (answer_at c it.request it.answer) (sym taken) equal end was.space left result
+          (did was.space))

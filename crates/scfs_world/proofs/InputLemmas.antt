@@ -27,10 +27,12 @@ use Rattle.scfs_world.specs.declared.fault.StepFault.{StepFault}
 use Rattle.scfs_world.specs.declared.fault.StepFault.TheVariants as faults
 use Rattle.scfs_world.proofs.OutputLemmas.{lines_reacted, steps_reacted, net_reacted}
 
-module _ (allows : RankFacts → ℕ → Type 0) (now : ℕ) (space : List Tuple) (header : Header) (a most : ℕ) (input : Input) (before : List Line) (old : SeatState)
+module _ (allows : RankFacts → ℕ → Type 0) (now : ℕ) (space : List Tuple) (header : Header) (a most : ℕ) (input : Input) (before : List Line)
+    (old : SeatState)
     (net : NetState) (state : State Row) (m : Seat Row) (shows : ShowsSeat header a old m) (holds : Holds now most space state.tree) where
   -- its reaction is this
-  did_leaves : (new : SeatState) (after : NetState) (shown : List Line) (d : IsDone allows now input before old new net after shown) (r : Reaction Row)
+  did_leaves : (new : SeatState) (after : NetState) (shown : List Line) (d : IsDone allows now input before old new net after shown)
+      (r : Reaction Row)
       → DoesAs a header.lease new.agent.agent d.given r
       → Leaves header a now most (record { seat = new; space = space; net = after }) net shown state (did (under header) state a m before r)
   did_leaves new after shown d r does =
@@ -73,7 +75,8 @@ module _ (allows : RankFacts → ℕ → Type 0) (now : ℕ) (space : List Tuple
         (subst (λ g. DoesRanked allows state.clock old.agent.header old.agent.no g is given i) shows.agent
         (subst (λ t. DoesRanked allows t old.agent.header old.agent.no old.agent.agent is given i) clock (means is given reacts))))
 
-    pub comes_does : (new : SeatState) (after : NetState) (result : Result (List Line) StepFault) → Comes allows now old new net after input before result
+    pub comes_does : (new : SeatState) (after : NetState) (result : Result (List Line) StepFault)
+        → Comes allows now old new net after input before result
         → Becomes allows Comes_here header a now most (record { seat = new; space = space; net = after }) net state result
     comes_does new after (Ok shown) d =
         let k = here new.agent.agent d.given d.it.reacts in

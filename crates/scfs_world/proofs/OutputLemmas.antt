@@ -50,7 +50,8 @@ module _ (s : Setup) (a lease : ℕ) where
   net_sent [] net = refl
   net_sent (x ∷ rest) net = net_sent rest (asked_by net x)
 
-  net_steps : (net : NetState) (steps : List (Request Row)) (rest : List Output) → net_with net (map (step_output lease) steps ++ rest) ≡ net_with net rest
+  net_steps : (net : NetState) (steps : List (Request Row)) (rest : List Output)
+      → net_with net (map (step_output lease) steps ++ rest) ≡ net_with net rest
   net_steps net [] rest = refl
   net_steps net (x ∷ steps) rest = net_steps net steps rest
 

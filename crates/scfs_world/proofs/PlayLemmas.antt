@@ -54,5 +54,6 @@ plays_on allows old new event given world is brings room same_header count carri
         clouds = clouds;
       },
       played,
-      λ apart. (runs_without_clash header (e ∷ past) (subst IsHeader stands.by_header world.header) played.happens played.served played.events apart).0,
+      λ apart. (runs_without_clash header (e ∷ past)
+          (subst IsHeader stands.by_header world.header) played.happens played.served played.events apart).0,
     )

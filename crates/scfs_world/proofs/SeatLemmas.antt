@@ -92,7 +92,8 @@ module _ (allows : RankFacts → ℕ → Type 0) (now : ℕ) (space : List Tuple
     says_does line d = by result d
       where
         by : (r : Result (List Line) StepFault) → Says old new net after line r
-            → Becomes allows (λ ranks. leaving (with_seat state a m) (line ∷ [])) header a now most (record { seat = new; space = space; net = after }) net state r
+            → Becomes allows (λ ranks. leaving (with_seat state a m) (line ∷ [])) header a now most
+            (record { seat = new; space = space; net = after }) net state r
         by (Ok shown) d = (
           [],
           tt,
@@ -149,7 +150,8 @@ module _ (allows : RankFacts → ℕ → Type 0) (now : ℕ) (space : List Tuple
     brings_does (events.Start c) b of d = come_by inputs.Start Starts not (λ is given k. k) d
     brings_does other b of d = absurd of
 
-    pub tells_does : (xs : List StepReply) (ys : List (Reply Row)) → Together (λ n. ShowsReply header.lease) 0 xs ys → Each (IsOfIts m.agent.pending) ys
+    pub tells_does : (xs : List StepReply) (ys : List (Reply Row)) → Together (λ n. ShowsReply header.lease) 0 xs ys
+        → Each (IsOfIts m.agent.pending) ys
         → TellsOldest allows now old new net after xs result
         → Done (λ ranks. tells (under header) rows state a (record { now = state.clock; ranks = ranks }) m ys)
     tells_does [] [] t own d = skip_does d
@@ -166,19 +168,22 @@ module _ (allows : RankFacts → ℕ → Type 0) (now : ℕ) (space : List Tuple
         } in
         subst (λ n. Done (λ ranks. comes_back (under header) rows state a (record { now = state.clock; ranks = ranks }) n []
         (Tells n y.outcome) (record m { replied = ys }))) t.0.number
-        (back_does (record old { replied = xs }) (record m { replied = ys }) rest at.space (inputs.Space x.request x.reply) (Tells x.request y.outcome) []
+        (back_does (record old { replied = xs }) (record m { replied = ys }) rest at.space (inputs.Space x.request x.reply)
+        (Tells x.request y.outcome) []
         at.clock (λ is given reacts. reacts y.outcome (is_told header a old m at.seat x y t.0 own.0)) x.request d)
 
 -- steps served and postponed, by what waits
 
 module _ (allows : RankFacts → ℕ → Type 0) (now : ℕ) (space left : List Tuple) (old new : SeatState) (net : NetState) (header : Header) (a most : ℕ)
-    (state : State Row) (m : Seat Row) (at : IsAt header a now most (record { seat = old; space = space; net = net }) state m) (shown : List Line) where
+    (state : State Row) (m : Seat Row) (at : IsAt header a now most (record { seat = old; space = space; net = net }) state m)
+    (shown : List Line) where
   abbrev Ends : (x : (ranks : List ℕ) → Effect Row) → Type 0
   Ends x = Becomes allows x header a now most (record { seat = new; space = left; net = net }) net state (Ok shown)
 
   skips_so : new ≡ old → left ≡ space → shown ≡ lines.Skip ∷ [] → Ends (λ ranks. skips state)
   skips_so same stays line =
-      subst (λ ts. Becomes allows (λ ranks. skips state) header a now most (record { seat = new; space = ts; net = net }) net state (Ok shown)) (sym stays)
+      subst (λ ts. Becomes allows (λ ranks. skips state) header a now most (record { seat = new; space = ts; net = net }) net state (Ok shown))
+          (sym stays)
       (skip_does allows now space new net net header a most state (Ok shown) old m at (same, refl, line))
 
   pub serves_does : (ys : List (Request Row)) → m.asked ≡ ys → ServesOldest now old new space left shown (map (step_asked header.lease) ys)
@@ -200,7 +205,8 @@ module _ (allows : RankFacts → ℕ → Type 0) (now : ℕ) (space left : List 
             (record {
               m = seat now;
               lines =
-                  did.2 ∙ ap (λ line. line ∷ []) (line_served (live now state.tree) now header.lease y.number y.step (reply_of space now step) refl alike.reply);
+                  did.2 ∙ ap (λ line. line ∷ []) (line_served (live now state.tree) now header.lease y.number y.step
+                      (reply_of space now step) refl alike.reply);
               clock = refl;
               seats = refl;
               seat = subst (λ s. ShowsSeat header a s (seat now)) (sym did.0)
@@ -238,7 +244,8 @@ module _ (allows : RankFacts → ℕ → Type 0) (now : ℕ) (space left : List 
             served = each_moved CanBeServed m.asked at.seat.served;
             replied = at.seat.replied;
           });
-      space = subst (λ ts. Holds now (most + 1) ts state.tree) (sym stays) (holds_on now now most (most + 1) space state.tree at.space (le_refl _) (omega arith));
+      space = subst (λ ts. Holds now (most + 1) ts state.tree) (sym stays)
+          (holds_on now now most (most + 1) space state.tree at.space (le_refl _) (omega arith));
       sent = refl;
     },
   )
@@ -306,8 +313,10 @@ module _ (allows : RankFacts → ℕ → Type 0) (now : ℕ) (space : List Tuple
       → ComesBack allows now old new net after request (inputs.Cloud c request answer) before result
       → SeatDoes allows now (answer_at c request answer) At (record { seat = new; space = space; net = after }) result
   hear_does carried after result c request answer before line did = (
-    λ header a most state m at. back_does allows now space new net after header a most state result old m at.seat at.space (inputs.Cloud c request answer)
+    λ header a most state m at. back_does allows now space new net after header a most state result old m at.seat at.space
+        (inputs.Cloud c request answer)
     (Hears c request answer) (lines.Gave c request (sum_of (under header) answer) ∷ []) at.clock (λ is given k. k) request
     (subst (λ ls. ComesBack allows now old new net after request (inputs.Cloud c request answer) ls result) (line header) did),
-    if_keeps allows now old new net after carried (is_there old.agent.agent request) (inputs.Cloud c request answer) before (lines.Gone request) result did,
+    if_keeps allows now old new net after carried (is_there old.agent.agent request) (inputs.Cloud c request answer) before
+        (lines.Gone request) result did,
   )

@@ -96,13 +96,16 @@ module _ (request : RequestNo) (now lease : ℕ) where
 
   -- by what is found on the way
   module _ (tree : Tree Row) (reply : Reply) where
-    reads_line : (names : List (List ℕ)) (session : ℕ) (r : OrRefusal Node) → let o = Of_sessions (Open_read names session) (on_ok (λ n. Sees (sight_of rows tree n)) r) in
+    reads_line : (names : List (List ℕ)) (session : ℕ) (r : OrRefusal Node)
+        → let o = Of_sessions (Open_read names session) (on_ok (λ n. Sees (sight_of rows tree n)) r) in
         IsReplyTo lease request o reply → Read (On_sessions (Open_read names session)) reply.result ≡ served_line rows request o
     reads_line names session (Ok n) h = read_line names session (sight_of rows tree n) reply h
-    reads_line names session (Err why) h = refused_line request (step_on_tuples lease request (On_sessions (Open_read names session))) now why reply.result h
+    reads_line names session (Err why) h =
+        refused_line request (step_on_tuples lease request (On_sessions (Open_read names session))) now why reply.result h
 
     writes_line : (names : List (List ℕ)) (session : ℕ) (r : OrRefusal Node)
-        → let o = Of_sessions (Open_write names session) (on_ok (λ (n : Node). Locks (sight_of rows tree n) (new_lock request session (now + lease) n.id)) r) in
+        → let o = Of_sessions (Open_write names session)
+        (on_ok (λ (n : Node). Locks (sight_of rows tree n) (new_lock request session (now + lease) n.id)) r) in
         IsReplyTo lease request o reply → Read (On_sessions (Open_write names session)) reply.result ≡ served_line rows request o
     writes_line names session (Ok n) h =
         ap (Read (On_sessions (Open_write names session))) h.0.result
@@ -110,12 +113,14 @@ module _ (request : RequestNo) (now lease : ℕ) where
     writes_line names session (Err why) h =
         refused_line request (step_on_tuples lease request (On_sessions (Open_write names session))) now why reply.result h
 
-    lost : (session : ℕ) (v : Row) (result : StepResult) → IsRefusal (step_on_tuples lease request (On_sessions (Commit session v))) refusals.LockLost result
+    lost : (session : ℕ) (v : Row) (result : StepResult)
+        → IsRefusal (step_on_tuples lease request (On_sessions (Commit session v))) refusals.LockLost result
         → Read (On_sessions (Commit session v)) result ≡ lines.Refused request refusals.LockLost
     lost session v result h = refused_line request (step_on_tuples lease request (On_sessions (Commit session v))) now refusals.LockLost result h
 
     commits_line : (session : ℕ) (v : Row) (l : Option Lock) (n : Option Node)
-        → let w = rows.completed v now in let o = Of_sessions (Commit session v) (on_ok (λ m. Completes session w (with_version rows m w)) (still_held l n)) in
+        → let w = rows.completed v now in
+        let o = Of_sessions (Commit session v) (on_ok (λ m. Completes session w (with_version rows m w)) (still_held l n)) in
         IsReplyTo lease request o reply → Read (On_sessions (Commit session v)) reply.result ≡ served_line rows request o
     commits_line session v None n h = lost session v reply.result h
     commits_line session v (Some l) None h = lost session v reply.result h

@@ -147,24 +147,28 @@ module _ (w : WorldState) (net : NetState) (a : ℕ) (seat : SeatState) (h : Rea
             clouds = kept.clouds ∙ h.clouds ∙ h.world.clouds;
             carried = ready.carried;
             each = All-set (IsSeat (w.events + 1)) w.seats a end (record { inputs = ready.inputs; steps = ready.steps })
-                (All-weaker (IsSeat w.events) (IsSeat (w.events + 1)) (λ s k. record { inputs = omega (arith, k.inputs); steps = k.steps }) w.seats h.world.each);
+                (All-weaker (IsSeat w.events) (IsSeat (w.events + 1))
+                (λ s k. record { inputs = omega (arith, k.inputs); steps = k.steps }) w.seats h.world.each);
           };
         }
 
-    pub seat_does : (result : Result (List Line) StepFault) → SeatDoes allows w.clock does At Then result → Does allows w (Set end space after) event result
+    pub seat_does : (result : Result (List Line) StepFault) → SeatDoes allows w.clock does At Then result
+        → Does allows w (Set end space after) event result
     seat_does (Ok shown) did = (steps shown did, keeps did.1)
     seat_does (Err faults.TooLarge) did = passes did
     seat_does (Err faults.Memory) did = tt
 
 -- an event at a seat is one of the machine there
 
-module _ (header : Header) (state : State Row) (a : ℕ) (m : Seat Row) (there : slice_get state.seats a ≡ Some m) (message : Option Message) (ranks : List ℕ) where
+module _ (header : Header) (state : State Row) (a : ℕ) (m : Seat Row) (there : slice_get state.seats a ≡ Some m) (message : Option Message)
+    (ranks : List ℕ) where
   seated : (b : ℕ) (on : (n : ℕ) → Seat Row → Effect Row) → b ≡ a → at_seat state b (on b) ≡ on a m
   seated b on is = ap (λ n. at_seat state n (on n)) is ∙ ap (λ o. if_some o (leaving state []) (on a)) there
 
   effect_at : (event : Event) → IsAtSeat a event
       → effect (under header) rows state event message (record { now = state.clock; ranks = ranks }) ≡ event_at event header a state ranks m
-  effect_at (events.Call b call) is = seated b (λ n. at_agent (under header) rows state (record { now = state.clock; ranks = ranks }) n (Call_comes call)) is
+  effect_at (events.Call b call) is =
+      seated b (λ n. at_agent (under header) rows state (record { now = state.clock; ranks = ranks }) n (Call_comes call)) is
   effect_at (events.Turn b) is = seated b (λ n. at_agent (under header) rows state (record { now = state.clock; ranks = ranks }) n Turn_comes) is
   effect_at (events.Crash b) is = seated b (λ n. at_agent (under header) rows state (record { now = state.clock; ranks = ranks }) n Crash_comes) is
   effect_at (events.Start b) is = seated b (λ n. at_agent (under header) rows state (record { now = state.clock; ranks = ranks }) n Start_comes) is
@@ -184,7 +188,8 @@ stays_at (events.Told b) a net is = refl
 stays_at other a net is = absurd is
 
 -- code has seen the world so, and reads and writes the seat at this place
-module _ (was old : WorldState) (same : was ≡ old) (a i : ℕ) (seat : SeatState) (from : i ≡ a) (value : seat ≡ get_or was.seats i seat) (world : IsWorld old)
+module _ (was old : WorldState) (same : was ≡ old) (a i : ℕ) (seat : SeatState) (from : i ≡ a) (value : seat ≡ get_or was.seats i seat)
+    (world : IsWorld old)
     (shown : IsShown old) (room : old.events < 1000000) (agent : a < length old.header.agents) where
   pub reads : Reads was was.net i seat
   reads =
@@ -201,7 +206,8 @@ module _ (was old : WorldState) (same : was ≡ old) (a i : ℕ) (seat : SeatSta
 
   pub event_does : (allows : RankFacts → ℕ → Type 0) (event : Event) → IsAtSeat a event → (end : SeatState) (space : List Tuple) (after : NetState)
       (result : Result (List Line) StepFault)
-      → SeatDoes allows was.clock (event_at event) (record { seat = seat; space = was.space; net = was.net }) (record { seat = end; space = space; net = after }) result
+      → SeatDoes allows was.clock (event_at event) (record { seat = seat; space = was.space; net = was.net })
+      (record { seat = end; space = space; net = after }) result
       → Does allows old (record was { space = space; seats = slice_set was.seats i end; net = after }) event result
   event_does allows event is end space after result did =
       let at : IsAtSeat i event = subst (λ n. IsAtSeat n event) (sym from) is in
@@ -217,7 +223,8 @@ module _ (w : WorldState) (event : Event) (now : ℕ) (after : NetState) where
 
   pub alone_does : (shown : List Line) → IsWorld w → w.clock ≤ now → now ≤ 1000000000 * (w.events + 1) → after ≡ moved_by event w.net
       → length after.clouds ≡ length w.net.clouds → after.carried ≤ carried_limit
-      → ((state : State Row) → Shows w state → effect_on w state event [] ≡ leaving (record state { clock = now }) shown) → DoesAlone w Alone event (Ok shown)
+      → ((state : State Row) → Shows w state → effect_on w state event [] ≡ leaving (record state { clock = now }) shown)
+      → DoesAlone w Alone event (Ok shown)
   alone_does shown world on soon moved as_many carried same = (
     λ state shows. (
       ap (λ (y : Effect Row). y.ranked) (same state shows),
@@ -241,7 +248,8 @@ module _ (w : WorldState) (event : Event) (now : ℕ) (after : NetState) where
         seats = world.seats;
         clouds = as_many ∙ world.clouds;
         carried = carried;
-        each = All-weaker (IsSeat w.events) (IsSeat (w.events + 1)) (λ s h. record { inputs = omega (arith, h.inputs); steps = h.steps }) w.seats world.each;
+        each = All-weaker (IsSeat w.events) (IsSeat (w.events + 1))
+            (λ s h. record { inputs = omega (arith, h.inputs); steps = h.steps }) w.seats world.each;
       };
     },
   )

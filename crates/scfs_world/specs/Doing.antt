@@ -73,7 +73,8 @@ pub record IsGiven (allows : RankFacts → ℕ → Type 0) (now : ℕ) (input : 
   pub inputs : is.inputs ≡ was.inputs + 1
 
 -- and what it put out was done; the lines stand behind these
-pub record IsDone (allows : RankFacts → ℕ → Type 0) (now : ℕ) (input : Input) (before : List Line) (old new : SeatState) (net after : NetState) (shown : List Line) : Type 0 where
+pub record IsDone (allows : RankFacts → ℕ → Type 0) (now : ℕ) (input : Input) (before : List Line) (old new : SeatState) (net after : NetState)
+    (shown : List Line) : Type 0 where
   pub given : List Output
   pub it : IsGiven allows now input old.agent new.agent given
   pub asked : new.asked ≡ old.asked ++ steps_out given

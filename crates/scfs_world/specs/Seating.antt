@@ -65,7 +65,8 @@ pub record IsAt (header : Header) (a now most : ℕ) (x : Around) (state : State
   pub ends : now + header.lease < 2 ^ 64
 
 -- these lines are those of an effect on a state, and what it leaves is shown
-pub record Leaves (header : Header) (a now most : ℕ) (new : Around) (net : NetState) (shown : List Line) (state : State Row) (x : Effect Row) : Type 0 where
+pub record Leaves (header : Header) (a now most : ℕ) (new : Around) (net : NetState) (shown : List Line) (state : State Row)
+    (x : Effect Row) : Type 0 where
   pub m : Seat Row
   pub lines : shown ≡ x.lines
   pub clock : x.state.clock ≡ state.clock
@@ -75,7 +76,8 @@ pub record Leaves (header : Header) (a now most : ℕ) (new : Around) (net : Net
   pub sent : new.net ≡ all_asked net x.sent
 
 -- What becomes of what the machine does: for some answers that the rank rule allows it is done, or it would carry too many bytes.
-abbrev pub Becomes : (allows : RankFacts → ℕ → Type 0) → (x : (ranks : List ℕ) → Effect Row) → Header → (a now most : ℕ) → (new : Around) → NetState → State Row
+abbrev pub Becomes : (allows : RankFacts → ℕ → Type 0) → (x : (ranks : List ℕ) → Effect Row) → Header → (a now most : ℕ) → (new : Around) → NetState
+    → State Row
     → Result (List Line) StepFault → Type 0
 Becomes allows x header a now most new net state (Ok shown) =
     (ranks : List ℕ) × Answers allows (x ranks).ranked ranks × Leaves header a now most new net shown state (x ranks)
@@ -95,7 +97,8 @@ pub record IsReady (events : ℕ) (agent : AgentState) (asked : List StepAsked) 
   pub carried : net.carried ≤ carried_limit
 
 -- an event leaves them ready with one event more, and whose they are
-pub record KeepsReady (old : AgentState) (asked : List StepAsked) (net : NetState) (new : AgentState) (left : List StepAsked) (after : NetState) : Type 0 where
+pub record KeepsReady (old : AgentState) (asked : List StepAsked) (net : NetState) (new : AgentState) (left : List StepAsked)
+    (after : NetState) : Type 0 where
   pub ready : (events : ℕ) → IsReady events old asked net → IsReady (events + 1) new left after
   pub header : new.header ≡ old.header
   pub clouds : length after.clouds ≡ length net.clouds

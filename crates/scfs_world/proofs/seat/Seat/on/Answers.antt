@@ -6,13 +6,13 @@ tell-requires-clause-told g c = shown_fits c.args.now c.args.space.now c.args.se
 
 pub returns-in_ok-serve-in-Space : goal.returns-in_ok-serve-in-Space
 returns-in_ok-serve-in-Space g c =
-    serve_does _ c.args.now c.args.space.now c.args.self.now c.serve.new.self c.args.net.now c.requires.ready.carried c.args.event.now c.in-Space.field-0
-    c.in-Space.is c.serve.new.space c.in_ok-serve-in-Space.field-0 c.in_ok-serve-in-Space.ensures
+    serve_does _ c.args.now c.args.space.now c.args.self.now c.serve.new.self c.args.net.now c.requires.ready.carried c.args.event.now
+    c.in-Space.field-0 c.in-Space.is c.serve.new.space c.in_ok-serve-in-Space.field-0 c.in_ok-serve-in-Space.ensures
 
 pub returns-in_ok-postpone-in-Later : goal.returns-in_ok-postpone-in-Later
 returns-in_ok-postpone-in-Later g c =
-    postpone_does _ c.args.now c.args.space.now c.args.self.now c.postpone.new.self c.args.net.now c.requires.ready.carried c.args.event.now c.in-Later.field-0
-    c.in-Later.is c.in_ok-postpone-in-Later.field-0 c.in_ok-postpone-in-Later.ensures
+    postpone_does _ c.args.now c.args.space.now c.args.self.now c.postpone.new.self c.args.net.now c.requires.ready.carried c.args.event.now
+    c.in-Later.field-0 c.in-Later.is c.in_ok-postpone-in-Later.field-0 c.in_ok-postpone-in-Later.ensures
 
 pub returns-in-Told : goal.returns-in-Told
 returns-in-Told g c =
@@ -21,6 +21,7 @@ returns-in-Told g c =
 
 pub returns-in_default : goal.returns-in_default
 returns-in_default g c =
-    come_does _ c.args.now c.args.space.now c.args.self.now c.come.new.self c.args.net.now c.requires.ready.carried c.args.event.now c.requires.event.0
-    c.come.new.net c.come.result
-    (comes_to c.args.event.now c.requires.event.0 c.requires.event.1 c.in_default.not-Space c.in_default.not-Later c.in_default.not-Told) c.come.ensures
+    come_does _ c.args.now c.args.space.now c.args.self.now c.come.new.self c.args.net.now c.requires.ready.carried c.args.event.now
+    c.requires.event.0 c.come.new.net c.come.result
+    (comes_to c.args.event.now c.requires.event.0 c.requires.event.1 c.in_default.not-Space c.in_default.not-Later c.in_default.not-Told)
+    c.come.ensures
