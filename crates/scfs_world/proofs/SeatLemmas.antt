@@ -183,7 +183,7 @@ module _ (allows : RankFacts → ℕ → Type 0) (now : ℕ) (space left : List 
   skips_so : new ≡ old → left ≡ space → shown ≡ lines.Skip ∷ [] → Ends (λ ranks. skips state)
   skips_so same stays line =
       subst (λ ts. Becomes allows (λ ranks. skips state) header a now most (record { seat = new; space = ts; net = net }) net state (Ok shown))
-          (sym stays)
+      (sym stays)
       (skip_does allows now space new net net header a most state (Ok shown) old m at (same, refl, line))
 
   pub serves_does : (ys : List (Request Row)) → m.asked ≡ ys → ServesOldest now old new space left shown (map (step_asked header.lease) ys)
@@ -206,7 +206,7 @@ module _ (allows : RankFacts → ℕ → Type 0) (now : ℕ) (space left : List 
               m = seat now;
               lines =
                   did.2 ∙ ap (λ line. line ∷ []) (line_served (live now state.tree) now header.lease y.number y.step
-                      (reply_of space now step) refl alike.reply);
+                  (reply_of space now step) refl alike.reply);
               clock = refl;
               seats = refl;
               seat = subst (λ s. ShowsSeat header a s (seat now)) (sym did.0)
@@ -273,9 +273,9 @@ module _ (allows : RankFacts → ℕ → Type 0) (now : ℕ) (space : List Tuple
         → SeatDoes allows now (event_at event) At (record { seat = new; space = left; net = net }) (Ok shown)
     serve_does is left shown did = (
       λ header a most state m at. subst (λ e. Becomes allows (λ ranks. event_at e header a state ranks m) header a now most
-      (record { seat = new; space = left; net = net }) net state (Ok shown)) (sym is)
-      (serves_does allows now space left old new net header a most state m at shown m.asked refl
-      (subst (ServesOldest now old new space left shown) at.seat.asked did)),
+          (record { seat = new; space = left; net = net }) net state (Ok shown)) (sym is)
+          (serves_does allows now space left old new net header a most state m at shown m.asked refl
+          (subst (ServesOldest now old new space left shown) at.seat.asked did)),
       served_keeps old new net carried space left now shown old.asked refl did,
     )
 
@@ -283,9 +283,9 @@ module _ (allows : RankFacts → ℕ → Type 0) (now : ℕ) (space : List Tuple
         → SeatDoes allows now (event_at event) At (record { seat = new; space = space; net = net }) (Ok shown)
     postpone_does is shown did = (
       λ header a most state m at. subst (λ e. Becomes allows (λ ranks. event_at e header a state ranks m) header a now most
-      (record { seat = new; space = space; net = net }) net state (Ok shown)) (sym is)
-      (postpones_does allows now space space old new net header a most state m at shown m.asked refl refl
-      (subst (PostponesOldest old new shown) at.seat.asked did)),
+          (record { seat = new; space = space; net = net }) net state (Ok shown)) (sym is)
+          (postpones_does allows now space space old new net header a most state m at shown m.asked refl refl
+          (subst (PostponesOldest old new shown) at.seat.asked did)),
       postponed_keeps old new net carried shown old.asked refl did,
     )
 
@@ -296,8 +296,8 @@ module _ (allows : RankFacts → ℕ → Type 0) (now : ℕ) (space : List Tuple
       pub tell_does : event ≡ events.Told b → TellsOldest allows now old new net after old.replied result → Seat_does
       tell_does is did = (
         λ header a most state m at. subst (λ e. Becomes allows (λ ranks. event_at e header a state ranks m) header a now most
-        (record { seat = new; space = space; net = after }) net state result) (sym is)
-        (tells_does allows now space new net after header a most state result old m at old.replied m.replied at.seat.replied at.whole.own did),
+            (record { seat = new; space = space; net = after }) net state result) (sym is)
+            (tells_does allows now space new net after header a most state result old m at old.replied m.replied at.seat.replied at.whole.own did),
         told_keeps allows now old new net after carried result old.replied did,
       )
 
@@ -315,8 +315,8 @@ module _ (allows : RankFacts → ℕ → Type 0) (now : ℕ) (space : List Tuple
   hear_does carried after result c request answer before line did = (
     λ header a most state m at. back_does allows now space new net after header a most state result old m at.seat at.space
         (inputs.Cloud c request answer)
-    (Hears c request answer) (lines.Gave c request (sum_of (under header) answer) ∷ []) at.clock (λ is given k. k) request
-    (subst (λ ls. ComesBack allows now old new net after request (inputs.Cloud c request answer) ls result) (line header) did),
+        (Hears c request answer) (lines.Gave c request (sum_of (under header) answer) ∷ []) at.clock (λ is given k. k) request
+        (subst (λ ls. ComesBack allows now old new net after request (inputs.Cloud c request answer) ls result) (line header) did),
     if_keeps allows now old new net after carried (is_there old.agent.agent request) (inputs.Cloud c request answer) before
         (lines.Gone request) result did,
   )

@@ -244,7 +244,15 @@ impl Seat {
             return Ok(one_line(alloc, Line::Skip)?);
         };
         let input = Input::Space(oldest.request, oldest.reply);
-        self.come_back(alloc, now, oldest.request, input, Sequence::new(alloc), net, rank)
+        self.come_back(
+            alloc,
+            now,
+            oldest.request,
+            input,
+            Sequence::new(alloc),
+            net,
+            rank,
+        )
     }
 
     /// The space serves the oldest step.

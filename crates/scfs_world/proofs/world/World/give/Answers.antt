@@ -11,7 +11,7 @@ returns-in_default g c =
 pub returns-then-a-len : goal.returns-then-a-len
 returns-then-a-len g c =
     far_does (the_view c.self.inside) c.args.self.now c.self.view_is c.requires.world c.args.c
-        (Some c.in-Some.given) c.in-Some.ensures.answer c.give.new.self
+    (Some c.in-Some.given) c.in-Some.ensures.answer c.give.new.self
     c.in-Some.ensures.after c.in-Some.given refl _ c.new.result (omega (arith, c.if-a-len.true, c.len.ensures, c.from-a.ensures)) c.new.ensures
 
 pub hear-requires-clause-cloud : goal.hear-requires-clause-cloud
