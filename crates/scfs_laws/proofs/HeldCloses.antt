@@ -1,5 +1,5 @@
 -- Uploads of closed sessions leave what is seen of an agent tied to its seat.
-use Rattle.std.proofs.Common.{◌≡◌, ℕ, ◌+◌, ◌≤◌, List, [], ◌∷◌, ◌++◌, length, refl, sym, subst, arith, Bool, true, false, cond, nat_le, nat_lt, leb-true, le-leb, eqb-true, Some, None, filter, not}
+use Rattle.std.proofs.Common.{◌≡◌, ℕ, ◌+◌, ◌≤◌, List, [], ◌∷◌, ◌++◌, length, refl, sym, subst, arith, Bool, true, false, cond, nat_le, leb-true, le-leb, eqb-true, Some, None, filter, not}
 use Rattle.std.specs.Prelude.{◌==◌}
 use Rattle.scfs_base.specs.declared.naming.RequestNo.{RequestNo}
 use Rattle.scfs_base.specs.declared.cloud.CloudAnswer.{CloudAnswer}
@@ -7,7 +7,7 @@ use Rattle.scfs_base.specs.declared.cloud.CloudRequest.TheVariants as requests
 use Rattle.scfs_schedule.specs.declared.types.Event.{Event}
 use Rattle.scfs_base.specs.Limits.{turns_limit}
 use Rattle.scfs_model.specs.Leases.{unleased}
-use Rattle.scfs_model.specs.Lists.{below, is_in, put_by_number}
+use Rattle.scfs_model.specs.Lists.{below, is_in}
 use Rattle.scfs_model.specs.Format.{Setup, clouds_of, enough, object_at}
 use Rattle.scfs_model.specs.Next.{Goes_on, Asks, Has, Gives_up}
 use Rattle.scfs_model.specs.Storing.{is_enough, with_ack, store_on, is_new_ack}
@@ -19,6 +19,7 @@ use Rattle.scfs_model.specs.Closes.{with_storing, stores, upload_hears, upload_t
 use Rattle.scfs_model.specs.Layers.{Row}
 use Rattle.scfs_model.specs.States.{Reply}
 use Rattle.scfs_laws.specs.Held.{Version_seen, Agent_seen}
+use Rattle.scfs_laws.proofs.NewestLists.{length-put}
 use Rattle.scfs_laws.proofs.HeldSeats.{latest, IsRow, busy_asked, busy_replied, Seated}
 use Rattle.scfs_laws.proofs.HeldSteps.{none_asked, all_idle, any_change, loose_change}
 use Rattle.scfs_laws.proofs.HeldLines.{Does}
@@ -27,15 +28,6 @@ use Rattle.scfs_laws.proofs.HeldDoing.{at, seat_of, silent_does, asks_does, afte
 -- the agent whose one closed session is uploaded so
 abbrev pub uploading : Agent Row → Closed Row → Upload Row → Agent Row
 uploading agent x u = at agent (Some For_close) ((record x { upload = Some u }) ∷ [])
-
--- a number put into a list makes it one longer
-put_within : (n m : ℕ) (ms rest : List ℕ) (b : Bool) → length rest ≡ length ms + 1 → length (cond b (n ∷ m ∷ ms) (m ∷ rest)) ≡ length (m ∷ ms) + 1
-put_within n m ms rest true longer = omega arith
-put_within n m ms rest false longer = omega (arith, longer)
-
-pub length-put : (n : ℕ) (ms : List ℕ) → length (put_by_number n ms) ≡ length ms + 1
-length-put n [] = refl
-length-put n (m ∷ ms) = put_within n m ms (put_by_number n ms) (nat_lt n m) (length-put n ms)
 
 -- an upload that is stored further
 pub record IsFurther (s : Setup) (u later : Upload Row) : Type 0 where

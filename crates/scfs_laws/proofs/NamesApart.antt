@@ -12,7 +12,7 @@ use Rattle.scfs_model.specs.SessionSteps.{session_after, with_version}
 use Rattle.scfs_model.specs.Steps.{Step, On_names, On_locks, On_sessions, after_ok, served}
 use Rattle.scfs_model.specs.Runs.{state_after}
 use Rattle.scfs_laws.specs.TreeLaws.{has_place, NamesDiffer, CompletionKeeps}
-use Rattle.scfs_laws.proofs.NewestLists.{Each, Pairs, eqb-comm, each-map, each-always, pairs-append, pairs-without, pairs-found}
+use Rattle.scfs_laws.proofs.NewestLists.{Each, Pairs, eqb-comm, each-map, pairs-append, pairs-without, pairs-found}
 use Rattle.scfs_laws.proofs.NamesSteps.{make_cases, look_cases, session_cases}
 use Rattle.scfs_laws.proofs.NamesEvents.{tree_always}
 
@@ -69,15 +69,17 @@ module _ {V : Type 0} (s : Setup) (vs : Versions V) (keeps : CompletionKeeps vs)
   names_step tree now lease request (On_locks x) h = h
   names_step tree now lease request (On_sessions x) h =
       let t : Tree V = live now tree in
-      session_cases vs t now (now + lease) request (λ n. Unit {0}) (each-always _ (λ n. tt) t.nodes)
-      (λ r. NamesApart (after_ok t (session_after vs t request) r)) (λ why. h)
-      (λ n q. h) (λ session n q free. h)
-      (λ session v l n locked found.
-      let w : V = vs.completed v now in
-      let p : Node → Bool = is_node_at (vs.file w) (vs.number w - 1) in
-      let there : find p t.nodes ≡ Some n = rw (keeps.file v now, keeps.number v now) found in
-      pairs-append PlacesApart (without_first p t.nodes) (with_version vs n w) (pairs-without PlacesApart p t.nodes h)
-      (pairs-found PlacesApart places_turned p t.nodes n h there))
+      session_cases vs t now (now + lease) request (λ y r. NamesApart (after_ok t (session_after vs t request) r)) (λ y why. h)
+      (record {
+        sees = λ names session n there. h;
+        locks = λ names session n there free. h;
+        completes = λ session v l n locked found.
+            let w : V = vs.completed v now in
+            let p : Node → Bool = is_node_at (vs.file w) (vs.number w - 1) in
+            let there : find p t.nodes ≡ Some n = rw (keeps.file v now, keeps.number v now) found in
+            pairs-append PlacesApart (without_first p t.nodes) (with_version vs n w) (pairs-without PlacesApart p t.nodes h)
+            (pairs-found PlacesApart places_turned p t.nodes n h there);
+      })
       x
 
   -- in the tree of every history no two nodes have one name below one parent

@@ -1,5 +1,5 @@
 -- Which lines an event has: those of an agent commit nothing and serve nothing.
-use Rattle.std.proofs.Common.{◌≡◌, ℕ, List, [], ◌∷◌, ◌++◌, map, false, ◌||◌, fold, refl, ap, ◌∙◌, Option, Some, cond}
+use Rattle.std.proofs.Common.{◌≡◌, ℕ, List, [], ◌∷◌, ◌++◌, map, false, ◌||◌, fold, refl, ap, ◌∙◌, Option, Some, cond, Ok, Err}
 use Rattle.std.specs.List.{list_any}
 use Rattle.scfs_base.specs.declared.naming.FileId.{FileId}
 use Rattle.scfs_base.specs.declared.naming.RequestNo.{RequestNo}
@@ -8,13 +8,20 @@ use Rattle.scfs_base.specs.declared.cloud.CloudRequest.TheVariants as requests
 use Rattle.scfs_schedule.specs.declared.types.Line.{Line}
 use Rattle.scfs_schedule.specs.declared.types.Line.TheVariants as lines
 use Rattle.scfs_model.specs.Format.{Setup}
+use Rattle.scfs_model.specs.Versions.{Versions}
+use Rattle.scfs_model.specs.Given.{Given}
+use Rattle.scfs_model.specs.Walks.{OrRefusal}
+use Rattle.scfs_model.specs.NameSteps.{Name_outcome, Makes, Shows, name_line}
+use Rattle.scfs_model.specs.LockSteps.{Lock_outcome, Frees, Renews, lock_line}
+use Rattle.scfs_model.specs.Steps.{line_of}
+use Rattle.scfs_model.specs.Reactions.{reacted}
 use Rattle.scfs_model.specs.Sayings.{Saying, said_by}
 use Rattle.scfs_model.specs.Sayings as says
-use Rattle.scfs_model.specs.Agents.{Sent}
-use Rattle.scfs_model.specs.States.{request_line}
+use Rattle.scfs_model.specs.Agents.{Input, Sent}
+use Rattle.scfs_model.specs.States.{Seat, State, request_line, comes}
 use Rattle.scfs_laws.specs.Newest.{after_commit, is_service, Saw_line, after_saw}
-use Rattle.scfs_laws.proofs.NewestLists.{Each, each-append, eqb-apart}
-use Rattle.scfs_laws.proofs.NamesEvents.{IsIdle}
+use Rattle.scfs_laws.proofs.NewestLists.{Each, each-map, each-always, each-append, eqb-apart}
+use Rattle.scfs_laws.proofs.Ways.{IsIdle}
 
 -- a line that commits nothing
 abbrev pub IsNoCommit : Line → Type 0
@@ -60,6 +67,20 @@ request_of_agent s number c (requests.List prefix) = tt
 pub no_commit_of-agent : (l : Line) → IsOfAgent l → IsNoCommit l
 no_commit_of-agent (lines.Committed request file number) h = h
 no_commit_of-agent _ h = tt
+
+pub idle_no_commit : (l : Line) → IsIdle l → IsNoCommit l
+idle_no_commit l h = no_commit_of-agent l (idle_of_agent l h)
+
+-- steps on names and on locks complete no close
+pub names_commit_nothing : (request : RequestNo) (r : OrRefusal Name_outcome) → IsNoCommit (line_of request name_line r)
+names_commit_nothing request (Ok (Makes n)) = tt
+names_commit_nothing request (Ok (Shows n)) = tt
+names_commit_nothing request (Err why) = tt
+
+pub locks_commit_nothing : (request : RequestNo) (r : OrRefusal Lock_outcome) → IsNoCommit (line_of request lock_line r)
+locks_commit_nothing request (Ok (Frees count)) = tt
+locks_commit_nothing request (Ok (Renews l)) = tt
+locks_commit_nothing request (Err why) = tt
 
 -- what holds of each line of an agent's reaction
 pub each-did : (P : Line → Type 0) (s : Setup) (a : ℕ) (before : List Line) (said : List Saying) (sent : List Sent)
@@ -109,3 +130,15 @@ sees_nothing a latest _ h = refl
 pub no_saws : (a : ℕ) (latest : Option Saw_line) (xs : List Line) → Each (IsNoSawBy a) xs → fold (after_saw a) latest xs ≡ latest
 no_saws a latest [] h = refl
 no_saws a latest (l ∷ ls) h = ap (λ x. fold (after_saw a) x ls) (sees_nothing a latest l h.0) ∙ no_saws a latest ls h.1
+
+-- the lines of an input to an agent
+pub comes_of_agent : {V : Type 0} (s : Setup) (vs : Versions V) (state : State V) (a : ℕ) (given : Given) (before : List Line) (input : Input V)
+    (seat : Seat V) → Each IsIdle before → Each IsOfAgent (comes s vs state a given before input seat).lines
+comes_of_agent s vs state a given before input seat idle =
+    each-did IsOfAgent s a before (reacted s vs a seat.agent given input).says (reacted s vs a seat.agent given input).sent
+    (each-map IsIdle IsOfAgent idle_of_agent before idle) (each-always _ (said_of_agent a) _) (λ x. request_of_agent s x.number x.cloud x.body)
+
+pub comes_no_commit : {V : Type 0} (s : Setup) (vs : Versions V) (state : State V) (a : ℕ) (given : Given) (before : List Line) (input : Input V)
+    (seat : Seat V) → Each IsIdle before → Each IsNoCommit (comes s vs state a given before input seat).lines
+comes_no_commit s vs state a given before input seat idle =
+    each-map IsOfAgent IsNoCommit no_commit_of-agent _ (comes_of_agent s vs state a given before input seat idle)

@@ -1,7 +1,11 @@
 -- Lists: what holds of each item, and of each two; seats by their numbers.
-use Rattle.std.proofs.Common.{◌≡◌, ℕ, zero, suc, List, [], ◌∷◌, ◌++◌, replicate, Bool, true, false, cond, sym, subst, Option, Some, slice_get, slice_set, find, filter, Contains, eqb, arith}
+use Rattle.std.proofs.Common.{◌≡◌, ℕ, ◌+◌, zero, suc, length, nat_lt, refl, ap, ◌∙◌, List, [], ◌∷◌, ◌++◌, replicate, Bool, true, false, cond, sym, subst, Option, Some, slice_get, slice_set, find, filter, Contains, eqb, arith}
+use Rattle.std.specs.Prelude.{◌&&◌, ◌==◌}
+use Rattle.std.proofs.lemmas.Bool.{and_parts, eqb-true}
 use Rattle.std.proofs.lemmas.Bool.Decides.{nat_tests}
-use Rattle.scfs_model.specs.Lists.{without_first, moved_back}
+use Rattle.scfs_base.specs.declared.naming.RequestNo.{RequestNo}
+use Rattle.scfs_model.specs.Names.{same_request}
+use Rattle.scfs_model.specs.Lists.{without_first, moved_back, put_by_number}
 
 -- what holds of each item
 abbrev pub Each : {X : Type 0} → (X → Type 0) → List X → Type 0
@@ -33,6 +37,13 @@ chosen Q false x y h k = k
 pub each-map : {X : Type 0} (P Q : X → Type 0) → ((x : X) → P x → Q x) → (xs : List X) → Each P xs → Each Q xs
 each-map P Q f [] h = tt
 each-map P Q f (x ∷ xs) h = (f x h.0, each-map P Q f xs h.1)
+
+pub each-inside : {X : Type 0} (P Q : X → Type 0) (xs : List X) → ((x : X) → Contains xs x → P x → Q x) → Each P xs → Each Q xs
+each-inside P Q [] f h = tt
+each-inside P Q (x ∷ xs) f h = (
+  f x (0, omega arith, refl) h.0,
+  each-inside P Q xs (λ y inside. f y (suc inside.0, omega (arith, inside.1), inside.2)) h.1,
+)
 
 pub each-two : {X : Type 0} (P Q R : X → Type 0) → ((x : X) → P x → Q x → R x) → (xs : List X) → Each P xs → Each Q xs → Each R xs
 each-two P Q R f [] h k = tt
@@ -72,6 +83,18 @@ module _ {X : Type 0} (P : X → Type 0) where
   pub each-filter : (p : X → Bool) (xs : List X) → Each P xs → Each P (filter p xs)
   each-filter p [] h = tt
   each-filter p (x ∷ xs) h = chosen (Each P) (p x) (x ∷ filter p xs) (filter p xs) (h.0, each-filter p xs h.1) (each-filter p xs h.1)
+
+  fewer_by : (b c : Bool) (x : X) (xs ys : List X) → (c ≡ true → b ≡ true) → (Each P xs → Each P ys) → Each P (cond b (x ∷ xs) xs)
+      → Each P (cond c (x ∷ ys) ys)
+  fewer_by true true x xs ys more rest h = (h.0, rest h.1)
+  fewer_by true false x xs ys more rest h = rest h.1
+  fewer_by false false x xs ys more rest h = rest h
+  fewer_by false true x xs ys more rest h = cc (more refl)
+
+  -- of fewer items
+  pub each-fewer : (p q : X → Bool) → ((x : X) → q x ≡ true → p x ≡ true) → (xs : List X) → Each P (filter p xs) → Each P (filter q xs)
+  each-fewer p q more [] h = tt
+  each-fewer p q more (x ∷ xs) h = fewer_by (p x) (q x) x (filter p xs) (filter q xs) (more x) (each-fewer p q more xs) h
 
   -- what holds of each item holds of the found one
   pub found_by : (b : Bool) (y x : X) (rest : Option X) → P y → (rest ≡ Some x → P x) → cond b (Some y) rest ≡ Some x → P x
@@ -148,3 +171,24 @@ places_replicate P (suc n) x each (suc a) y h = places_replicate (λ m. P (suc m
 pub pairs-join : {X : Type 0} (R : X → X → Type 0) (xs ys : List X) → Pairs R xs → Pairs R ys → Each (λ x. Each (R x) ys) xs → Pairs R (xs ++ ys)
 pairs-join R [] ys h k across = k
 pairs-join R (x ∷ xs) ys h k across = (each-append (R x) xs ys h.0 across.0, pairs-join R xs ys h.1 k across.1)
+
+-- a number put into a list makes it one longer
+put_within : (n m : ℕ) (ms rest : List ℕ) (b : Bool) → length rest ≡ length ms + 1 → length (cond b (n ∷ m ∷ ms) (m ∷ rest)) ≡ length (m ∷ ms) + 1
+put_within n m ms rest true longer = omega arith
+put_within n m ms rest false longer = omega (arith, longer)
+
+pub length-put : (n : ℕ) (ms : List ℕ) → length (put_by_number n ms) ≡ length ms + 1
+length-put n [] = refl
+length-put n (m ∷ ms) = put_within n m ms (put_by_number n ms) (nat_lt n m) (length-put n ms)
+
+-- numbers of requests that pass for one are one
+pub same_number : (r q : RequestNo) → same_request r q ≡ true → r ≡ q
+same_number r q same =
+    let both = and_parts ((r.agent == q.agent) && (r.incarnation == q.incarnation)) (r.number == q.number) same in
+    let first = and_parts (r.agent == q.agent) (r.incarnation == q.incarnation) both.0 in
+    ap (λ a. record { agent = a; incarnation = r.incarnation; number = r.number }) (eqb-true r.agent q.agent first.0)
+    ∙ ap (λ i. record { agent = q.agent; incarnation = i; number = r.number }) (eqb-true r.incarnation q.incarnation first.1)
+    ∙ ap (λ n. record { agent = q.agent; incarnation = q.incarnation; number = n }) (eqb-true r.number q.number both.1)
+
+pub same_itself : (r : RequestNo) → same_request r r ≡ true
+same_itself r = rw (eqb-refl r.agent, eqb-refl r.incarnation, eqb-refl r.number)

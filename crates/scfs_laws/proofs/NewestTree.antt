@@ -9,13 +9,12 @@ use Rattle.scfs_model.specs.Lists.{without_first}
 use Rattle.scfs_model.specs.Names.{same_file}
 use Rattle.scfs_model.specs.Versions.{Versions}
 use Rattle.scfs_model.specs.Tree.{Node, version_at, is_node_at}
-use Rattle.scfs_model.specs.NameSteps.{Make, Look, new_file}
+use Rattle.scfs_model.specs.NameSteps.{new_file}
 use Rattle.scfs_model.specs.SessionSteps.{with_version}
-use Rattle.scfs_model.specs.Steps.{Step, On_names, On_locks, On_sessions}
 use Rattle.scfs_laws.specs.Newest.{after_commit}
 use Rattle.scfs_laws.proofs.NewestLists.{Each, Pairs, eqb-refl, eqb-apart, each-map, each-two, each-append, each-front, each-back, each-without, each-restored, pairs-append, pairs-without, pairs-found}
-use Rattle.scfs_laws.proofs.NewestKept.{VersionOk}
-use Rattle.scfs_laws.proofs.NewestVersions.{version_zero, version_kept, version_there}
+use Rattle.scfs_laws.proofs.NewestVersions.{VersionOk, version_zero, version_kept, version_there}
+use Rattle.scfs_laws.proofs.DrawnServes.{IsNot}
 use Rattle.scfs_laws.proofs.NewestLines.{IsNoCommit, commits_nothing}
 
 found_by : {X : Type 0} (p : X → Bool) (b : Bool) (y x : X) (rest : Option X) → p y ≡ b → (rest ≡ Some x → p x ≡ true)
@@ -31,17 +30,6 @@ found_passes p (y ∷ xs) x found = found_by p (p y) y x (find p xs) refl (found
 -- nodes of different ids; a node of another id
 abbrev pub IdsApart : Node → Node → Type 0
 IdsApart m n = ¬ (m.id.0 ≡ n.id.0)
-
-abbrev pub IsNot : FileId → Node → Type 0
-IsNot id n = ¬ (n.id.0 ≡ id.0)
-
-module _ {V : Type 0} where
-  -- a step makes none of the nodes that are there
-  abbrev pub MakesNew : List Node → Step V → Type 0
-  MakesNew nodes (On_names (Make names id)) = Each (IsNot id) nodes
-  MakesNew nodes (On_names (Look names)) = Unit {0}
-  MakesNew nodes (On_locks x) = Unit {0}
-  MakesNew nodes (On_sessions x) = Unit {0}
 
 module _ {V : Type 0} (vs : Versions V) where
   -- a node has the version that was committed, and that version is there

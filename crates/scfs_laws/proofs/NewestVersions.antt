@@ -6,7 +6,11 @@ use Rattle.scfs_model.specs.Names.{same_file}
 use Rattle.scfs_model.specs.Versions.{Versions}
 use Rattle.scfs_model.specs.Tree.{version_at}
 use Rattle.scfs_laws.proofs.NewestLists.{eqb-refl}
-use Rattle.scfs_laws.proofs.NewestKept.{VersionOk}
+
+-- the version beside a number
+abbrev pub VersionOk : {V : Type 0} → Versions V → (number : ℕ) → Option V → Type 0
+VersionOk vs number None = number ≡ 0
+VersionOk vs number (Some v) = vs.number v ≡ number
 
 module _ {V : Type 0} (vs : Versions V) (file : FileId) (number : ℕ) where
   abbrev is_it : V → Bool

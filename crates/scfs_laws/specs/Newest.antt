@@ -1,4 +1,4 @@
-use Rattle.std.specs.Prelude.{◌≡◌, ℕ, [], ◌∷◌, fold, Bool, false, ◌==◌, if◌then◌else◌, Option, Some, None, Contains}
+use Rattle.std.specs.Prelude.{◌≡◌, ℕ, List, [], ◌∷◌, fold, Bool, false, ◌==◌, if◌then◌else◌, Option, Some, None}
 use Rattle.std.specs.List.{list_any}
 use Rattle.scfs_base.specs.declared.naming.FileId.{FileId}
 use Rattle.scfs_base.specs.declared.naming.RequestNo.{RequestNo}
@@ -7,7 +7,7 @@ use Rattle.scfs_schedule.specs.declared.types.Line.TheVariants as lines
 use Rattle.scfs_schedule.specs.declared.types.Src.{Src}
 use Rattle.scfs_schedule.specs.declared.types.Src.TheVariants as sources
 use Rattle.scfs_model.specs.Names.{same_file, same_request}
-use Rattle.scfs_model.specs.History.{Entry, History}
+use Rattle.scfs_model.specs.History.{History}
 
 -- The sentence on opens, over the lines of a history alone: the version of an opened line is that of the last committed line of its
 -- file before the looked or locked line of its request.
@@ -46,8 +46,7 @@ after_saw a latest (lines.Saw request file number) =
     if request.agent == a then Some (record { request = request; file = file; number = number }) else latest
 after_saw a latest other = latest
 
--- the latest saw line of an agent. An opened line belongs to this one: an open says its saw line when it is told its sight, an agent has
--- one call at a time, and so no other open of it says a saw line before this one is opened, refused or lost in a crash
+-- the latest saw line of an agent
 abbrev pub latest_saw : (a : ℕ) → History → Option Saw_line
 latest_saw a [] = None
 latest_saw a (e ∷ past) = fold (after_saw a) (latest_saw a past) e.lines
@@ -65,19 +64,20 @@ IsNewest past (Some saw) number = (number ≡ saw.number) × WasNewest past saw
 abbrev pub IsFrom : (number : ℕ) → Src → (size : ℕ) → Type 0
 IsFrom number source size = (number ≡ 0 → (source ≡ sources.Empty) × (size ≡ 0)) × (¬ (number ≡ 0) → source ≡ sources.Clouds)
 
--- each saw line of an entry is of the newest version of its file
-abbrev pub SeesNewest : History → Entry → Type 0
-SeesNewest past e =
-    (request : RequestNo) (file : FileId) (number : ℕ) → Contains e.lines (lines.Saw request file number)
-    → WasNewest past (record { request = request; file = file; number = number })
+-- a line after a history, where this is agent a's latest saw line before it: a saw line is of the newest version of its file, and an opened
+-- line of the agent is of that of its latest saw line. An open says its saw line when it is told its sight, an agent has one call at a time,
+-- and so no other open of it says a saw line before this one is opened, refused or lost in a crash
+abbrev pub IsShown : History → (a : ℕ) → Option Saw_line → Line → Type 0
+IsShown past a latest (lines.Saw request file number) = WasNewest past (record { request = request; file = file; number = number })
+IsShown past a latest (lines.Opened b h number source size) = b ≡ a → IsNewest past latest number × IsFrom number source size
+IsShown past a latest other = Unit {0}
 
--- each opened line of an entry is of the newest version of its file
-abbrev pub ShowsNewest : History → Entry → Type 0
-ShowsNewest past e =
-    (a h number : ℕ) (source : Src) (size : ℕ) → Contains e.lines (lines.Opened a h number source size)
-    → IsNewest past (latest_saw a (e ∷ past)) number × IsFrom number source size
+-- each of the lines of an entry, in their order
+abbrev pub AreShown : History → (a : ℕ) → Option Saw_line → List Line → Type 0
+AreShown past a latest [] = Unit {0}
+AreShown past a latest (l ∷ ls) = IsShown past a latest l × AreShown past a (after_saw a latest l) ls
 
--- each saw line and each opened line of a history is
+-- each saw line and each opened line of a history
 abbrev pub OpensNewest : History → Type 0
 OpensNewest [] = Unit {0}
-OpensNewest (e ∷ past) = SeesNewest past e × ShowsNewest past e × OpensNewest past
+OpensNewest (e ∷ past) = ((a : ℕ) → AreShown past a (latest_saw a past) e.lines) × OpensNewest past

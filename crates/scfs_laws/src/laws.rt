@@ -10,7 +10,9 @@ ghost use Rattle.scfs_laws.specs.Newest.{OpensNewest};
 ghost use Rattle.scfs_model.specs.Runs.{actual, mapped, Happens, Run};
 ghost use Rattle.scfs_laws.specs.Sound.{IsSound};
 ghost use Rattle.scfs_model.specs.Tree.{live};
-ghost use Rattle.scfs_laws.specs.TreeLaws.{CommitsHeldLocks, LocksAlone, NamesDiffer};
+ghost use Rattle.scfs_laws.specs.Acknowledged.{CommitsAreAcknowledged};
+ghost use Rattle.scfs_laws.specs.Fences.{CommitsAreFenced};
+ghost use Rattle.scfs_laws.specs.TreeLaws.{LocksAlone, NamesDiffer};
 
 /// Where each open got from the clouds what was closed, what agents and the space have is the file map, with rows in place of closes,
 /// and what happens is a run.
@@ -38,10 +40,17 @@ pub fn opens_are_newest()
     ensures due { (s : Setup) (past : History) → length past < 2 ^ 24 → Run s past → OpensNewest past }
 {}
 
-/// A close is completed only under a live lock of a session of its agent on the file, and on the version before.
-pub fn commits_held_their_locks()
-    ensures made { (s : Setup) (past : History) → Happens s past → CommitsHeldLocks s rows past }
-    ensures due { (s : Setup) (past : History) → Run s past → CommitsHeldLocks s (closes s) past }
+/// Each close was completed while its session's lock lived, which from its locked line on lived alone on the file; and the file was at
+/// the version before.
+pub fn commits_are_fenced()
+    ensures made { (s : Setup) (past : History) → Happens s past → CommitsAreFenced s rows past }
+    ensures due { (s : Setup) (past : History) → Run s past → CommitsAreFenced s (closes s) past }
+{}
+
+/// Each close was completed on objects of which all clouds but f had acknowledged theirs, to the agent and incarnation that asked its
+/// commit, whatever else clouds answered.
+pub fn commits_are_acknowledged()
+    ensures { (s : Setup) (past : History) → Happens s past → CommitsAreAcknowledged s past }
 {}
 
 /// In the tree of every history no two nodes have one name below one parent, and no file has two live locks.

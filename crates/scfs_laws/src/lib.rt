@@ -8,6 +8,6 @@ mod laws;
 
 pub use clash::{no_clash_before, runs_without_clash, sound_without_clash};
 pub use laws::{
-    commits_held_their_locks, layers_agree, opens_are_newest, reads_are_held, runs_of_prefixes,
-    trees_are_whole,
+    commits_are_acknowledged, commits_are_fenced, layers_agree, opens_are_newest, reads_are_held,
+    runs_of_prefixes, trees_are_whole,
 };
