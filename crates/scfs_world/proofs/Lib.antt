@@ -1,4 +1,3 @@
-mod DrawnWalk
 mod WholeSeats
 mod WholeStates
 mod WholeLaw

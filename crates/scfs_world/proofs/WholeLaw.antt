@@ -23,13 +23,16 @@ same_number r q same =
     let agents : r.agent ≡ q.agent = grind (arith, nat_tests) in
     let incarnations : r.incarnation ≡ q.incarnation = grind (arith, nat_tests) in
     let numbers : r.number ≡ q.number = grind (arith, nat_tests) in
-    ap (λ a. request_no a r.incarnation r.number) agents ∙ ap (λ i. request_no q.agent i r.number) incarnations ∙ ap (request_no q.agent q.incarnation) numbers
+    ap (λ a. request_no a r.incarnation r.number) agents ∙ ap (λ i. request_no q.agent i r.number) incarnations
+    ∙ ap (request_no q.agent q.incarnation) numbers
 
-its : (pending : List (Request Row)) (number : RequestNo) (step : Step Row) → Each (Agrees number step) pending → IsIts (pending_step pending number) step
+its : (pending : List (Request Row)) (number : RequestNo) (step : Step Row) → Each (Agrees number step) pending
+    → IsIts (pending_step pending number) step
 its [] number step each = tt
 its (x ∷ xs) number step each = by (same_request x.number number) (λ same. each.0 (same_number x.number number same)) (its xs number step each.1)
   where
-    by : (b : Bool) → (b ≡ true → x.step ≡ step) → IsIts (find (is_numbered number) xs) step → IsIts (cond b (Some x) (find (is_numbered number) xs)) step
+    by : (b : Bool) → (b ≡ true → x.step ≡ step) → IsIts (find (is_numbered number) xs) step
+        → IsIts (cond b (Some x) (find (is_numbered number) xs)) step
     by true here later = here refl
     by false here later = later
 
