@@ -1,11 +1,10 @@
 -- What events at the clouds do on the machine.
-use Rattle.std.proofs.Common.{◌≡◌, ℕ, ◌+◌, ◌*◌, ◌≤◌, List, [], ◌∷◌, length, refl, ap, sym, subst, ◌∙◌, arith, le_refl, Ok, Option, Some, None, length-set}
+use Rattle.std.proofs.Common.{◌≡◌, ℕ, ◌+◌, ◌≤◌, List, [], ◌∷◌, length, refl, ap, sym, subst, ◌∙◌, arith, le_refl, Ok, Option, Some, None, length-set}
 use Rattle.scfs_base.specs.Limits.{carried_limit}
 use Rattle.scfs_schedule.specs.declared.types.Event.{Event}
 use Rattle.scfs_schedule.specs.declared.types.Event.TheVariants as events
 use Rattle.scfs_schedule.specs.declared.types.Header.{Header}
 use Rattle.scfs_schedule.specs.declared.types.Line.{Line}
-use Rattle.scfs_schedule.specs.declared.types.Line.TheVariants as lines
 use Rattle.scfs_net.specs.declared.messages.Asked as request
 use Rattle.scfs_net.specs.declared.messages.Did.{Did}
 use Rattle.scfs_net.specs.declared.messages.Given as reply

@@ -1,5 +1,5 @@
 -- The numbers fit that a reply shows which waits to be told.
-use Rattle.std.proofs.Common.{◌≡◌, ◌≤◌, ℕ, List, [], ◌∷◌, true, Option, Some, None, option_map, IfSome, Ok, Err, ap, sym, subst, ◌∙◌, arith}
+use Rattle.std.proofs.Common.{◌≡◌, ℕ, List, true, Option, Some, None, option_map, IfSome, Ok, Err, ap, sym, subst, ◌∙◌, arith}
 use Rattle.scfs_base.specs.declared.naming.RequestNo.{RequestNo}
 use Rattle.scfs_schedule.specs.declared.types.Refusal.{Refusal}
 use Rattle.scfs_tuples.specs.declared.types.Reply.{Reply}
@@ -13,7 +13,7 @@ use Rattle.scfs_anchor.specs.StepReplies.{IsRefusal, IsReplyTo, IsSessionReply, 
 use Rattle.scfs_anchor.proofs.ReplyLemmas.{sight_read}
 use Rattle.scfs_model.specs.Layers.{Row}
 use Rattle.scfs_model.specs.Walks.{OrRefusal}
-use Rattle.scfs_model.specs.SessionSteps.{Session_step, Open_read, Open_write, Commit, Sight, Session_outcome, Sees, Locks, Completes}
+use Rattle.scfs_model.specs.SessionSteps.{Session_step, Open_read, Open_write, Commit, Sight, Session_outcome, Sees, Locks}
 use Rattle.scfs_model.specs.Steps.{On_sessions, Outcome, Of_names, Of_locks, Of_sessions}
 use Rattle.scfs_model.specs.Agents.{Request}
 use Rattle.scfs_agent.specs.Keeping.{IsRow}

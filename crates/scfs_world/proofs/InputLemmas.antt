@@ -1,5 +1,5 @@
 -- An input that was done at a seat is done as on the machine.
-use Rattle.std.proofs.Common.{◌≡◌, ℕ, ◌+◌, ◌<◌, List, [], ◌∷◌, ◌++◌, map, refl, ap, sym, subst, ◌∙◌, arith, le_refl, append_assoc, Result, Ok, Err}
+use Rattle.std.proofs.Common.{◌≡◌, ℕ, ◌+◌, ◌<◌, List, ◌++◌, map, refl, ap, sym, subst, ◌∙◌, arith, le_refl, append_assoc, Result, Ok, Err}
 use Rattle.std.proofs.lemmas.List.{map-append}
 use Rattle.scfs_base.specs.Limits.{carried_limit}
 use Rattle.scfs_policy.specs.declared.rank.RankFacts.{RankFacts}

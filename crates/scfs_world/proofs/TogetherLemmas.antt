@@ -1,5 +1,5 @@
 -- Two lists, item by item.
-use Rattle.std.proofs.Common.{◌≡◌, ℕ, zero, suc, ◌+◌, ◌<◌, List, [], ◌∷◌, ◌++◌, length, refl, ap, subst, Some, arith}
+use Rattle.std.proofs.Common.{◌≡◌, ℕ, zero, suc, ◌+◌, List, [], ◌∷◌, ◌++◌, length, refl, ap, subst, Some, arith}
 use Rattle.std.specs.Prelude.{slice_get, slice_set}
 use Rattle.scfs_anchor.specs.Tree.{Each}
 use Rattle.scfs_world.specs.Shows.{Together}

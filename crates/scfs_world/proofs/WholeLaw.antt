@@ -14,7 +14,7 @@ use Rattle.scfs_laws.proofs.NewestLists.{each-map}
 use Rattle.scfs_laws.proofs.NewestOpens.{state_ok, rows_keep}
 use Rattle.scfs_agent.specs.Telling.{pending_step, is_numbered, outcome_step, IsIts}
 use Rattle.scfs_world.specs.Happening.{StandingAreShown}
-use Rattle.scfs_world.specs.Whole.{IsWholeSeat, StatesAreWhole}
+use Rattle.scfs_world.specs.Whole.{StatesAreWhole}
 use Rattle.scfs_world.proofs.WholeSeats.{Agrees, SeatKept}
 use Rattle.scfs_world.proofs.WholeStates.{kept_after}
 

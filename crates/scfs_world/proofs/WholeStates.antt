@@ -1,5 +1,5 @@
 -- What is known of each seat after a history.
-use Rattle.std.proofs.Common.{◌≡◌, ℕ, List, [], ◌∷◌, ◌++◌, true, refl, sym, subst, Some, slice_get, slice_set, length}
+use Rattle.std.proofs.Common.{◌≡◌, ℕ, List, [], ◌∷◌, ◌++◌, refl, sym, subst, Some, slice_get, slice_set, length}
 use Rattle.scfs_base.specs.declared.naming.RequestNo.{RequestNo}
 use Rattle.scfs_model.specs.Lists.{moved_back}
 use Rattle.scfs_model.specs.Format.{Setup}
@@ -9,7 +9,7 @@ use Rattle.scfs_model.specs.Layers.{Row, rows}
 use Rattle.scfs_model.specs.Lives.{is_up}
 use Rattle.scfs_model.specs.Tree.{Tree, live}
 use Rattle.scfs_model.specs.Steps.{Step, On_names, On_locks, On_sessions, served}
-use Rattle.scfs_model.specs.Agents.{Request, Input, Calls, Tells, Hears, Turns, Crashes, Starts}
+use Rattle.scfs_model.specs.Agents.{Request, Input, Tells, Hears}
 use Rattle.scfs_model.specs.Events.{At_agent, Call_comes, Turn_comes, Crash_comes, Start_comes, place_of}
 use Rattle.scfs_model.specs.States.{Reply, Seat, State, first_seat, comes}
 use Rattle.scfs_model.specs.Runs.{actual}

@@ -1,5 +1,5 @@
 -- What is done at one seat, or at the clouds and the clock alone, is a step of the whole world.
-use Rattle.std.proofs.Common.{◌≡◌, ℕ, ◌+◌, ◌*◌, ◌^◌, ◌<◌, ◌≤◌, List, [], ◌∷◌, length, get_or, refl, ap, sym, subst, ◌∙◌, arith, le_refl, Option, Some, slice_get, slice_set, IfSome, Result, Ok, Err, length-set}
+use Rattle.std.proofs.Common.{◌≡◌, ℕ, ◌+◌, ◌*◌, ◌<◌, ◌≤◌, List, [], length, get_or, refl, ap, sym, subst, ◌∙◌, arith, le_refl, Option, Some, slice_get, slice_set, IfSome, Result, Ok, Err, length-set}
 use Rattle.std.proofs.lemmas.List.Elements.{All-set, All-weaker}
 use Rattle.std.proofs.lemmas.Option.{slice_get-get_or, slice_get_within, get_or_from_slice_get}
 use Rattle.scfs_base.specs.Limits.{carried_limit}
@@ -19,7 +19,7 @@ use Rattle.scfs_model.specs.History.{Message}
 use Rattle.scfs_model.specs.Layers.{Row, rows}
 use Rattle.scfs_model.specs.Runs.{Answers}
 use Rattle.scfs_model.specs.States.{Seat, State, Effect, effect, leaving, at_seat, at_agent, at_space}
-use Rattle.scfs_world.specs.Seating.{Around, At_seat, IsAt, Leaves, Becomes, SeatDoes, IsShownAt, IsReady, KeepsReady, IsAtSeat, event_at}
+use Rattle.scfs_world.specs.Seating.{Around, At_seat, IsAt, Leaves, SeatDoes, IsShownAt, IsReady, KeepsReady, IsAtSeat, event_at}
 use Rattle.scfs_world.specs.Shows.{Together, ShowsSeat, Shows}
 use Rattle.scfs_world.specs.State.{SeatState, WorldState, counted}
 use Rattle.scfs_world.specs.Stepping.{effect_on, net_after, DoesIt, Does, DoesAlone, Steps, IsTooLarge, IsShown, IsSeat, IsWorld, Keeps}

@@ -1,4 +1,4 @@
-use Rattle.std.specs.Prelude.{◌≡◌, ◌≢◌, ◌^◌, ◌<◌, List, length}
+use Rattle.std.specs.Prelude.{◌^◌, ◌<◌, List, length}
 use Rattle.scfs_schedule.specs.declared.types.Header.{Header}
 use Rattle.scfs_anchor.specs.Tree.{Each}
 use Rattle.scfs_anchor.specs.Holding.{IsFresh}

@@ -1,4 +1,3 @@
-use Rattle.std.proofs.Common.{length}
 use Rattle.scfs_world.specs.contracts.world.World.{the_view}
 use Rattle.scfs_world.proofs.CloudLemmas.{answered_does}
 use Rattle.scfs_world.proofs.world.World.answered.Goals as goal

@@ -1,7 +1,4 @@
-use Rattle.std.proofs.Common.{◌≡◌, [], Ok, sym, subst}
-use Rattle.scfs_schedule.specs.declared.types.Event.TheVariants as events
 use Rattle.scfs_world.specs.contracts.world.World.{the_view}
-use Rattle.scfs_world.specs.Stepping.{DoesAlone}
 use Rattle.scfs_world.proofs.CloudLemmas.{later_does}
 use Rattle.scfs_world.proofs.world.World.later.Goals as goal
 

@@ -1,5 +1,5 @@
-use Rattle.std.proofs.Common.{◌≡◌, ◌≢◌, ◌↔◌, [], length, IsTrue, arith, subst, ap}
-use Rattle.scfs_world.specs.State.{SeatState, WorldState}
+use Rattle.std.proofs.Common.{◌≢◌, ◌↔◌, [], IsTrue}
+use Rattle.scfs_world.specs.State.{SeatState}
 use Rattle.scfs_world.specs.contracts.world.World.{the_view}
 use Rattle.scfs_world.proofs.WorldLemmas.{seat_there}
 use Rattle.scfs_world.proofs.world.World.space_reply.Goals as goal
