@@ -33,7 +33,7 @@ use Rattle.scfs_agent.specs.Telling.{IsTold}
 use Rattle.scfs_agent.specs.declared.types.Input.{Input}
 use Rattle.scfs_agent.specs.declared.types.Input.TheVariants as inputs
 use Rattle.scfs_agent.specs.declared.types.Output.{Output}
-use Rattle.scfs_world.specs.Doing.{ComesTo, can_come, input_of, Says, ComesIf, Brings, ComesBack, FitsOldest, TellsOldest, ServesOldest, PostponesOldest}
+use Rattle.scfs_world.specs.Doing.{can_come, input_of, Says, ComesIf, Brings, ComesBack, FitsOldest, TellsOldest, ServesOldest, PostponesOldest}
 use Rattle.scfs_world.specs.Seating.{Around, IsAt, Leaves, Becomes, SeatDoes, IsShownAt, IsAtSeat, event_at, answer_at}
 use Rattle.scfs_world.specs.Shows.{Together, step_asked, CanBeServed, ShowsReply, ShowsSeat}
 use Rattle.scfs_world.specs.State.{SeatState}
@@ -142,13 +142,18 @@ module _ (allows : RankFacts → ℕ → Type 0) (now : ℕ) (space : List Tuple
         (subst (λ t. Done (If (can (is_up old.agent.agent.life)) t m i [] lines.Skip)) same_state
         (if_does old m at.seat at.space input i [] at.clock means (can (is_up old.agent.agent.life)) lines.Skip d))
 
-    pub brings_does : (event : Event) (b : ℕ) → ComesTo b event → Brings allows now old new net after event result
+    -- of all events at a seat, these are between its agent and the space
+    pub brings_does : (event : Event) (b : ℕ) → IsAtSeat b event → ((c : ℕ) → ¬ (event ≡ events.Space c)) → ((c : ℕ) → ¬ (event ≡ events.Later c))
+        → ((c : ℕ) → ¬ (event ≡ events.Told c)) → Brings allows now old new net after event result
         → Done (λ ranks. event_at event header a state ranks m)
-    brings_does (events.Call c call) b of d = come_by (inputs.Call call) (Calls call) (λ up. up) (λ is given k. k) d
-    brings_does (events.Turn c) b of d = come_by inputs.Turn Turns (λ up. up) (λ is given k. k) d
-    brings_does (events.Crash c) b of d = come_by inputs.Crash Crashes (λ up. up) (λ is given k. k) d
-    brings_does (events.Start c) b of d = come_by inputs.Start Starts not (λ is given k. k) d
-    brings_does other b of d = absurd of
+    brings_does (events.Call c call) b at space later told d = come_by (inputs.Call call) (Calls call) (λ up. up) (λ is given k. k) d
+    brings_does (events.Turn c) b at space later told d = come_by inputs.Turn Turns (λ up. up) (λ is given k. k) d
+    brings_does (events.Crash c) b at space later told d = come_by inputs.Crash Crashes (λ up. up) (λ is given k. k) d
+    brings_does (events.Start c) b at space later told d = come_by inputs.Start Starts not (λ is given k. k) d
+    brings_does (events.Space c) b at space later told d = absurd (space c refl)
+    brings_does (events.Later c) b at space later told d = absurd (later c refl)
+    brings_does (events.Told c) b at space later told d = absurd (told c refl)
+    brings_does other b at space later told d = absurd at
 
     pub tells_does : (xs : List StepReply) (ys : List (Reply Row)) → Together (λ n. ShowsReply header.lease) 0 xs ys
         → Each (IsOfIts m.agent.pending) ys
@@ -250,18 +255,6 @@ module _ (allows : RankFacts → ℕ → Type 0) (now : ℕ) (space left : List 
     },
   )
 
--- an event at a seat that is none between its agent and the space comes to the agent
-pub comes_to : (event : Event) (b : ℕ) → IsAtSeat b event → ((a : ℕ) → ¬ (event ≡ events.Space a)) → ((a : ℕ) → ¬ (event ≡ events.Later a))
-    → ((a : ℕ) → ¬ (event ≡ events.Told a)) → ComesTo b event
-comes_to (events.Space a) b at no_space no_later no_told = absurd (no_space a refl)
-comes_to (events.Later a) b at no_space no_later no_told = absurd (no_later a refl)
-comes_to (events.Told a) b at no_space no_later no_told = absurd (no_told a refl)
-comes_to (events.Call a call) b at no_space no_later no_told = at
-comes_to (events.Turn a) b at no_space no_later no_told = at
-comes_to (events.Crash a) b at no_space no_later no_told = at
-comes_to (events.Start a) b at no_space no_later no_told = at
-comes_to other b at no_space no_later no_told = absurd at
-
 -- at the seat, whatever is shown there
 
 module _ (allows : RankFacts → ℕ → Type 0) (now : ℕ) (space : List Tuple) (old new : SeatState) (net : NetState) where
@@ -301,9 +294,10 @@ module _ (allows : RankFacts → ℕ → Type 0) (now : ℕ) (space : List Tuple
         told_keeps allows now old new net after carried result old.replied did,
       )
 
-      pub come_does : ComesTo b event → Brings allows now old new net after event result → Seat_does
-      come_does of did = (
-        λ header a most state m at. brings_does allows now space new net after header a most state result old m at event b of did,
+      pub come_does : IsAtSeat b event → ((c : ℕ) → ¬ (event ≡ events.Space c)) → ((c : ℕ) → ¬ (event ≡ events.Later c))
+          → ((c : ℕ) → ¬ (event ≡ events.Told c)) → Brings allows now old new net after event result → Seat_does
+      come_does of no_space no_later no_told did = (
+        λ header a most state m at. brings_does allows now space new net after header a most state result old m at event b of no_space no_later no_told did,
         if_keeps allows now old new net after carried (can_come event old.agent.agent.life) (input_of event) [] lines.Skip result did,
       )
 

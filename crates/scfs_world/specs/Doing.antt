@@ -95,15 +95,7 @@ abbrev pub FitsOldest : AgentState → List StepReply → Type 0
 FitsOldest a [] = Unit {0}
 FitsOldest a (oldest ∷ rest) = FitsInput a.header a.agent (inputs.Space oldest.request oldest.reply)
 
--- an event that comes to agent a
-abbrev pub ComesTo : (a : ℕ) → Event → Type 0
-ComesTo a (events.Call b call) = b ≡ a
-ComesTo a (events.Turn b) = b ≡ a
-ComesTo a (events.Crash b) = b ≡ a
-ComesTo a (events.Start b) = b ≡ a
-ComesTo a other = ⊥
-
--- what it brings
+-- what an event brings to an agent
 abbrev pub input_of : Event → Input
 input_of (events.Call a call) = inputs.Call call
 input_of (events.Crash a) = inputs.Crash

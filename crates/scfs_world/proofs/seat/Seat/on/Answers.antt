@@ -1,4 +1,4 @@
-use Rattle.scfs_world.proofs.SeatLemmas.{shown_fits, comes_to, come_does, tell_does, serve_does, postpone_does}
+use Rattle.scfs_world.proofs.SeatLemmas.{shown_fits, come_does, tell_does, serve_does, postpone_does}
 use Rattle.scfs_world.proofs.seat.Seat.on.Goals as goal
 
 pub tell-requires-clause-told : goal.tell-requires-clause-told
@@ -23,5 +23,4 @@ pub returns-in_default : goal.returns-in_default
 returns-in_default g c =
     come_does _ c.args.now c.args.space.now c.args.self.now c.come.new.self c.args.net.now c.requires.ready.carried c.args.event.now
     c.requires.event.0 c.come.new.net c.come.result
-    (comes_to c.args.event.now c.requires.event.0 c.requires.event.1 c.in_default.not-Space c.in_default.not-Later c.in_default.not-Told)
-    c.come.ensures
+    c.requires.event.1 c.in_default.not-Space c.in_default.not-Later c.in_default.not-Told c.come.ensures
