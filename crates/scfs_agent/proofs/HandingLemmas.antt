@@ -1,5 +1,5 @@
 -- What a call gave, said of the agent before it.
-use Rattle.std.proofs.Common.{◌≡◌, ℕ, ◌+◌, ◌*◌, List, [], Bool, true, false, Some, None, Result, IfOk, OnOk, sym, ap, ◌∙◌, subst}
+use Rattle.std.proofs.Common.{◌≡◌, ℕ, ◌+◌, ◌*◌, List, [], Bool, true, false, Some, None, Result, IfOk, OnOk, sym, ap, ◌∙◌}
 use Rattle.std.specs.Prelude.{◌&&◌, not, if◌then◌else◌}
 use Rattle.std.proofs.lemmas.Result.{IfOk-weaker, on_ok_weaker}
 use Rattle.scfs_base.specs.declared.naming.RequestNo.{RequestNo}
@@ -18,20 +18,12 @@ use Rattle.scfs_model.specs.Format.{sealed}
 use Rattle.scfs_model.specs.Asked as requests
 use Rattle.scfs_model.specs.Layers.{Row, rows}
 use Rattle.scfs_model.specs.Reading.{piece_in}
-use Rattle.scfs_model.specs.Agents.{For_close, Reaction, silent}
+use Rattle.scfs_model.specs.Agents.{For_close, Reaction}
 use Rattle.scfs_model.specs.Opens.{open_hears, reads, takes, tallied}
 use Rattle.scfs_model.specs.Closes.{asks_puts, begins}
-use Rattle.scfs_model.specs.Given.{Given}
-use Rattle.scfs_model.specs.NameSteps.{Name_step, Name_outcome}
-use Rattle.scfs_model.specs.LockSteps.{Lock_step, Lock_outcome}
-use Rattle.scfs_model.specs.SessionSteps.{Session_step, Session_outcome}
-use Rattle.scfs_model.specs.Steps.{Step, On_names, On_locks, On_sessions, Outcome, Of_names, Of_locks, Of_sessions}
-use Rattle.scfs_model.specs.Walks.{OrRefusal}
-use Rattle.scfs_model.specs.Told.{tells, told, untold, is_pending}
 use Rattle.scfs_model.specs.Next.{Goes_on}
 use Rattle.scfs_agent.specs.State.{AgentState, setup}
 use Rattle.scfs_agent.specs.Views.{asked_of, opening_of, reading_of, next_of, row_of, left_session, acked_of, upload_of, closed_of}
-use Rattle.scfs_agent.specs.Telling.{outcome_step}
 use Rattle.scfs_agent.specs.Outputs.{outputs_of}
 use Rattle.scfs_agent.specs.Keeping.{IsFetch}
 use Rattle.scfs_agent.specs.declared.types.Output.{Output}
@@ -138,61 +130,3 @@ module _ (old v : AgentState) (view_is : v ≡ old) (h : ℕ) (left : Ended) (ro
   begun_after =
       ap (λ (w : AgentState). record (drawn_by w) { agent = (put_by (drawn_by w)).agent }) view_is
       ∙ ap (λ (r : Reaction Row). record old { agent = r.agent }) (begun_same old h left row unit puts acks clouds sealed_is rowed no_puts none all)
-
--- what was asked under a number is told
-module _ (old view : AgentState) (given : Given) (request : RequestNo) (o : Outcome Row) (left : view ≡ record old { agent = untold old.agent request })
-    (there : is_pending old.agent request ≡ true) where
-  told_same : told (setup old) rows old.no (untold old.agent request) given request o ≡ tells (setup old) rows old.no old.agent given request o
-  told_same =
-      ap (λ (b : Bool). if b then told (setup old) rows old.no (untold old.agent request) given request o else silent old.agent) (sym there)
-
-  pub told_gives : outputs_of view (told (setup view) rows view.no view.agent given request o)
-      ≡ outputs_of old (tells (setup old) rows old.no old.agent given request o)
-  told_gives =
-      ap (λ (v : AgentState). outputs_of v (told (setup v) rows v.no v.agent given request o)) left ∙ ap (outputs_of old) told_same
-
-  pub told_after : ◌≡◌ {A = AgentState} (record view { agent = (told (setup view) rows view.no view.agent given request o).agent })
-      (record old { agent = (tells (setup old) rows old.no old.agent given request o).agent })
-  told_after =
-      ap (λ (v : AgentState). record v { agent = (told (setup v) rows v.no v.agent given request o).agent }) left
-      ∙ ap (λ (r : Reaction Row). record old { agent = r.agent }) told_same
-
--- an outcome by the step that was asked
-abbrev OnNames : Step Row → Type 0
-OnNames (On_names x) = Unit {0}
-OnNames (On_locks x) = ⊥
-OnNames (On_sessions x) = ⊥
-
-abbrev OnLocks : Step Row → Type 0
-OnLocks (On_names x) = ⊥
-OnLocks (On_locks x) = Unit {0}
-OnLocks (On_sessions x) = ⊥
-
-abbrev OnSessions : Step Row → Type 0
-OnSessions (On_names x) = ⊥
-OnSessions (On_locks x) = ⊥
-OnSessions (On_sessions x) = Unit {0}
-
-abbrev session_in : Session_step Row → Step Row → Session_step Row
-session_in other (On_names x) = other
-session_in other (On_locks x) = other
-session_in other (On_sessions x) = x
-
-pub outcome_on_names : (P : Outcome Row → Type 0) → ((x : Name_step) (r : OrRefusal Name_outcome) → P (Of_names x r)) → (o : Outcome Row) (y : Name_step)
-    → outcome_step o ≡ On_names y → P o
-outcome_on_names P h (Of_names x r) y e = h x r
-outcome_on_names P h (Of_locks x r) y e = absurd (subst OnLocks e tt)
-outcome_on_names P h (Of_sessions x r) y e = absurd (subst OnSessions e tt)
-
-pub outcome_on_locks : (P : Outcome Row → Type 0) → ((x : Lock_step) (r : OrRefusal Lock_outcome) → P (Of_locks x r)) → (o : Outcome Row) (y : Lock_step)
-    → outcome_step o ≡ On_locks y → P o
-outcome_on_locks P h (Of_names x r) y e = absurd (subst OnNames e tt)
-outcome_on_locks P h (Of_locks x r) y e = h x r
-outcome_on_locks P h (Of_sessions x r) y e = absurd (subst OnSessions e tt)
-
-pub outcome_on_sessions : (P : Outcome Row → Type 0) (y : Session_step Row) → ((r : OrRefusal (Session_outcome Row)) → P (Of_sessions y r)) → (o : Outcome Row)
-    → outcome_step o ≡ On_sessions y → P o
-outcome_on_sessions P y h (Of_names x r) e = absurd (subst OnNames e tt)
-outcome_on_sessions P y h (Of_locks x r) e = absurd (subst OnLocks e tt)
-outcome_on_sessions P y h (Of_sessions x r) e =
-    let same : x ≡ y = ap (session_in y) e in subst (λ (z : Session_step Row). P (Of_sessions z r)) (sym same) (h r)

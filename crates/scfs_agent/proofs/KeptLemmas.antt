@@ -1,13 +1,13 @@
 -- What holds of every agent goes on to hold.
 use Rattle.std.proofs.Common.{◌≡◌, ℕ, ◌+◌, ◌*◌, ◌<◌, ◌≤◌, List, [], ◌∷◌, ◌++◌, length, length-append, map, Bool, true, false, not, cond, Option, Some, None, refl, sym, ap, ◌∙◌, subst, inl, inr, arith}
-use Rattle.std.specs.Prelude.{◌==◌, nat_lt, filter, IfSome, if◌then◌else◌, is_some, remove}
+use Rattle.std.specs.Prelude.{◌==◌, nat_lt, filter, IfSome, if◌then◌else◌, remove}
 use Rattle.std.specs.List.{All}
 use Rattle.std.specs.Map.{set_value}
 use Rattle.std.specs.Ordering.{nat_cmp, match_ordering}
 use Rattle.std.specs.declared.cmp.Ordering.{Ordering}
 use Rattle.std.specs.declared.cmp.Ordering.TheVariants.{Less, Equal, Greater}
 use Rattle.std.specs.BTreeMap.{is_at}
-use Rattle.std.proofs.lemmas.List.Elements.{All-cons, All-head, All-tail, All-weaker, All-map, All-push, All-append, All-filter}
+use Rattle.std.proofs.lemmas.List.Elements.{All-nil, All-cons, All-head, All-tail, All-weaker, All-map, All-push, All-append, All-filter}
 use Rattle.std.proofs.lemmas.List.Sums.{length-filter, count_by-le-length}
 use Rattle.std.proofs.lemmas.Bool.{lt-ltb, le-ltb, cases_order}
 use Rattle.std.proofs.lemmas.List.{map-append, length-map}
@@ -21,15 +21,18 @@ use Rattle.scfs_session.specs.Open.{OpenSessions, session_of, opened, ended, cha
 use Rattle.scfs_model.specs.Opens.{one_more}
 use Rattle.scfs_schedule.specs.declared.types.Header.{Header}
 use Rattle.scfs_anchor.specs.Tree.{Each}
+use Rattle.scfs_schedule.specs.Grammar.{IsHeader}
 use Rattle.scfs_model.specs.Layers.{Row}
-use Rattle.scfs_model.specs.Agents.{Closed}
+use Rattle.scfs_model.specs.Lists.{below}
+use Rattle.scfs_model.specs.UnitFormat.{under}
+use Rattle.scfs_model.specs.Agents.{Closed, no_tallies}
 use Rattle.scfs_agent.specs.Asking.{MayUpload}
-use Rattle.scfs_agent.specs.Settled.{OneBegun}
 use Rattle.scfs_agent.specs.Views.{step_of, request_of, waiting_of, closed_in}
-use Rattle.scfs_agent.specs.Keeping.{HaveBases, AreLeases, AreTallies, HaveRoom, MayTurn, IsKept, IsWork, FitsAsking, calls_in, calls_of, is_call}
+use Rattle.scfs_agent.specs.Keeping.{HaveBases, AreLeases, AreTallies, HaveRoom, IsKept, IsWork, FitsAsking, calls_in, calls_of, is_call}
 use Rattle.scfs_agent.specs.declared.work.Pending.{Pending}
 use Rattle.scfs_agent.specs.declared.work.Work.{Work}
 use Rattle.scfs_agent.specs.declared.work.Work.TheVariants as works
+use Rattle.scfs_agent.proofs.CloudLists.{first_clouds, first_few}
 use Rattle.scfs_agent.proofs.PendingLemmas.{calls_push, All-remove}
 
 abbrev Based : ℕ × Session → Type 0
@@ -166,6 +169,21 @@ ended_are most h until = changed_are most (end_told h until) (λ l. by_session h
 pub renewal_are : (most h : ℕ) (leases : List Lease) → AreLeases most leases → AreLeases most (with_renewal h leases)
 renewal_are most h = changed_are most (renewal_asked h) (λ l. by_session h (record l { asked = true }) l refl)
 
+-- an agent with no sessions, and no clouds counted
+pub kept_none : (header : Header) (no incarnation inputs requests opens files uploads : ℕ) (work : Work) (sessions : OpenSessions) (leases : List Lease) (tallies : List RankFacts)
+    (pending : List Pending) → IsHeader header → no < length header.agents → inputs ≤ 1000000 → incarnation ≤ inputs → requests ≤ 2000000 * inputs → opens ≤ inputs
+    → files ≤ inputs → uploads ≤ inputs → IsWork no incarnation header.f inputs work → sessions ≡ [] → leases ≡ [] → tallies ≡ no_tallies (under header) → pending ≡ []
+    → IsKept header no incarnation inputs requests opens files uploads work sessions leases tallies pending
+kept_none header a incarnation inputs requests opens files uploads work sessions leases tallies pending is member counted started drawn opened made begun working s l t p =
+    let clouds = below (3 * header.f + 1) in
+    let bases : HaveBases sessions = subst HaveBases (sym s) (All-nil Based) in
+    let leased : AreLeases inputs leases = subst (AreLeases inputs) (sym l) (record { few = omega arith; numbered = All-nil Numbered }) in
+    let tallied : AreTallies header.f inputs tallies =
+    subst (AreTallies header.f inputs) (sym t) (record { clouds = first_clouds clouds; few = first_few inputs clouds }) in
+    let fitting : All (λ (x : Pending). FitsAsking x.asking) pending = subst (All (λ (x : Pending). FitsAsking x.asking)) (sym p) (All-nil (λ (x : Pending). FitsAsking x.asking)) in
+    let waits : calls_in (map request_of pending) ≤ calls_of (waiting_of work) = omega (arith, ap (λ (xs : List Pending). calls_in (map request_of xs)) p) in
+    assumption (is, member, counted, started, drawn, opened, made, begun, working, bases, leased, tallied, fitting, waits)
+
 -- an agent with other work, sessions, leases, tallies or steps that were asked
 module _ {header : Header} {no incarnation inputs requests opens files uploads : ℕ} {work : Work} {sessions : OpenSessions} {leases : List Lease} {tallies : List RankFacts}
     {pending : List Pending} (kept : IsKept header no incarnation inputs requests opens files uploads work sessions leases tallies pending) where
@@ -215,55 +233,6 @@ module _ {header : Header} {no incarnation inputs requests opens files uploads :
       subst (All (λ (y : Pending). FitsAsking y.asking)) (sym left) (All-remove (λ (y : Pending). FitsAsking y.asking) pending at kept.fitting) in
       assumption (kept, calls, fitting)
 
-  counted_work : (w : Work) → IsWork no incarnation header.f inputs w → IsWork no incarnation header.f (inputs + 1) w
-  counted_work works.Down is = tt
-  counted_work works.Starting is = tt
-  counted_work works.Idle is = tt
-  counted_work works.Step is = tt
-  counted_work (works.Fetch fetch) is = is
-  counted_work (works.Upload upload) is =
-      record { acks = is.acks; part = is.part; counted = is.counted; turns = omega (arith, is.turns); closes = is.closes }
-
-  -- an input more
-  pub kept_counted : inputs < 1000000 → IsKept header no incarnation (inputs + 1) requests opens files uploads work sessions leases tallies pending
-  kept_counted room = record {
-    is_header = kept.is_header;
-    member = kept.member;
-    counted = omega (arith, room);
-    started = omega (arith, kept.started);
-    drawn = omega (arith, kept.drawn);
-    opened = omega (arith, kept.opened);
-    made = omega (arith, kept.made);
-    begun = omega (arith, kept.begun);
-    working = counted_work work kept.working;
-    bases = kept.bases;
-    leased = record { few = omega (arith, kept.leased.few); numbered = kept.leased.numbered };
-    tallied = record {
-      clouds = kept.tallied.clouds;
-      few =
-          All-weaker (λ (x : RankFacts). (x.good ≤ inputs) × (x.bad ≤ inputs)) (λ (x : RankFacts). (x.good ≤ inputs + 1) × (x.bad ≤ inputs + 1))
-          (λ x h. (omega (arith, h.0), omega (arith, h.1))) tallies kept.tallied.few;
-    };
-    waits = kept.waits;
-    fitting = kept.fitting;
-  }
-
-  may_turn : (w : Work) → IsWork no incarnation header.f inputs w → MayTurn (inputs + 1) (closed_in w)
-  may_turn works.Down is = tt
-  may_turn works.Starting is = tt
-  may_turn works.Idle is = tt
-  may_turn works.Step is = tt
-  may_turn (works.Fetch fetch) is = tt
-  may_turn (works.Upload upload) is = omega (arith, is.turns)
-
-  pub turns_counted : MayTurn (inputs + 1) (closed_in work)
-  turns_counted = may_turn work kept.working
-
-  pub room_counted : HaveRoom (inputs + 1) tallies
-  room_counted =
-      All-weaker (λ (x : RankFacts). (x.good ≤ inputs) × (x.bad ≤ inputs)) (λ (x : RankFacts). (x.good + 1 ≤ inputs + 1) × (x.bad + 1 ≤ inputs + 1))
-      (λ x h. (omega (arith, h.0), omega (arith, h.1))) tallies kept.tallied.few
-
 -- what it uploads may be completed
 pub closes_in : (a incarnation f inputs : ℕ) (w : Work) → IsWork a incarnation f inputs w
     → Each (λ (x : Closed Row). MayUpload a incarnation x.upload) (closed_in w)
@@ -273,11 +242,3 @@ closes_in a incarnation f inputs works.Idle is = tt
 closes_in a incarnation f inputs works.Step is = tt
 closes_in a incarnation f inputs (works.Fetch fetch) is = tt
 closes_in a incarnation f inputs (works.Upload upload) is = (is.closes, tt)
-
-pub one_closed : (w : Work) → OneBegun (closed_in w)
-one_closed works.Down = tt
-one_closed works.Starting = tt
-one_closed works.Idle = tt
-one_closed works.Step = tt
-one_closed (works.Fetch fetch) = tt
-one_closed (works.Upload upload) = refl

@@ -1,20 +1,25 @@
 -- What renewals ask and leave, and what an agent is told of locks.
-use Rattle.std.proofs.Common.{◌≡◌, ℕ, ◌^◌, ◌<◌, List, [], ◌∷◌, ◌++◌, map, Option, Some, None, Ok, Err, refl, ap, ◌∙◌, append_assoc}
+use Rattle.std.proofs.Common.{◌≡◌, ℕ, ◌^◌, ◌<◌, List, [], ◌∷◌, ◌++◌, Option, Some, None, Ok, Err, refl, sym, ap, ◌∙◌, append_assoc}
+use Rattle.std.specs.Prelude.{filter, ◌&&◌, not}
 use Rattle.std.proofs.lemmas.List.{map-append, append-nil}
 use Rattle.scfs_base.specs.declared.naming.FileId.{FileId}
 use Rattle.scfs_lease.specs.declared.leases.Lease.{Lease}
-use Rattle.scfs_policy.specs.declared.rank.RankFacts.{RankFacts}
+use Rattle.scfs_lease.specs.Leases.{is_due}
 use Rattle.scfs_anchor.specs.Tree.{Each}
 use Rattle.scfs_model.specs.Lists.{if_some}
 use Rattle.scfs_model.specs.Layers.{Row, rows}
 use Rattle.scfs_model.specs.Walks.{OrRefusal}
 use Rattle.scfs_model.specs.LockSteps.{Lock_step, Unlock, Unlock_all, Renew, Lock_outcome, Frees, Renews}
-use Rattle.scfs_model.specs.Sayings.{Saying}
-use Rattle.scfs_model.specs.Agents.{Agent, Sent, Reaction, silent, followed}
-use Rattle.scfs_model.specs.Leases.{file_of, renews, renews_all}
+use Rattle.scfs_model.specs.Agents.{Agent, Reaction, silent, followed}
+use Rattle.scfs_model.specs.Leases.{file_of, renews, renews_all, renews_due}
+use Rattle.scfs_model.specs.Opens.{open_turns}
+use Rattle.scfs_model.specs.Closes.{upload_turns}
+use Rattle.scfs_model.specs.Reactions.{to_work, turns}
+use Rattle.scfs_agent.specs.State.{AgentState, setup, given_now}
+use Rattle.scfs_agent.specs.declared.types.Output.{Output}
 use Rattle.scfs_model.specs.Told.{told_locks}
 use Rattle.scfs_agent.specs.Asking.{CanBeAsked}
-use Rattle.scfs_agent.specs.Outputs.{outputs_by, step_output, said_outputs, sent_outputs}
+use Rattle.scfs_agent.specs.Outputs.{outputs_by, outputs_of, step_output}
 
 -- steps are all that renewals ask, and they leave the agent's closed sessions
 pub record HasRenewed (a : ℕ) (agent : Agent Row) (r : Reaction Row) : Type 0 where
@@ -48,6 +53,21 @@ pub outputs_followed : (a lease : ℕ) (first second : Reaction Row) → first.s
     → outputs_by a lease (followed first (λ (next : Agent Row). second)) ≡ outputs_by a lease first ++ outputs_by a lease second
 outputs_followed a lease first second silent unsent =
     simp (unsent, silent, map-append (step_output lease) first.steps second.steps, append-nil, append_assoc)
+
+-- a turn gives what the renewals give, and then what its work does
+abbrev work : AgentState → Reaction Row
+work a = to_work a.agent (open_turns (setup a) rows a.no) (upload_turns (setup a) a.no)
+
+pub turned_gives : (old middle : AgentState) (now : ℕ) (given more all : List Output) → given ≡ outputs_of old (renews_due rows old.no old.agent now old.header.lease)
+    → middle ≡ record old { agent = (renews_due rows old.no old.agent now old.header.lease).agent } → more ≡ outputs_of middle (work middle) → all ≡ given ++ more
+    → all ≡ outputs_of old (turns (setup old) rows old.no old.agent (given_now now []))
+turned_gives old middle now given more all first left second joined =
+    let due = filter (λ (l : Lease). is_due now old.header.lease l && not l.asked) old.agent.leases in
+    let r = renews_all rows old.no old.agent due in
+    joined
+    ∙ ap (λ (xs : List Output). xs ++ more) first
+    ∙ ap (λ (xs : List Output). outputs_of old r ++ xs) (second ∙ ap (λ (a : AgentState). outputs_of a (work a)) left)
+    ∙ sym (outputs_followed old.no old.header.lease r (work (record old { agent = r.agent })) (renewed old.no old.agent due).says (renewed old.no old.agent due).sent)
 
 -- what is told of locks asks nothing, and leaves the closed sessions
 pub record IsCalm (agent : Agent Row) (r : Reaction Row) : Type 0 where

@@ -1,5 +1,5 @@
 -- What the rank rule is asked and answers when an agent is told what its step came to.
-use Rattle.std.proofs.Common.{◌≡◌, ℕ, List, [], ◌∷◌, ◌++◌, Bool, true, false, cond, Option, Some, None, Ok, Err, refl, sym, ap, ◌∙◌, subst, length, map, slice_get}
+use Rattle.std.proofs.Common.{◌≡◌, ℕ, List, [], ◌∷◌, ◌++◌, Bool, true, false, cond, Option, Some, None, Ok, Err, refl, sym, ap, ◌∙◌, subst}
 use Rattle.std.specs.Prelude.{◌==◌, ◌&&◌, not, is_some, if◌then◌else◌, option_map}
 use Rattle.std.proofs.lemmas.List.{append-nil}
 use Rattle.scfs_base.specs.declared.naming.RequestNo.{RequestNo}
@@ -28,12 +28,9 @@ use Rattle.scfs_model.specs.Agents.{Agent, Closed, Request, silent}
 use Rattle.scfs_model.specs.Opens.{As_empty, found, found_version, saw, sighted}
 use Rattle.scfs_model.specs.Leases.{leased}
 use Rattle.scfs_model.specs.Told.{tells, told, told_commit, untold}
-use Rattle.scfs_agent.specs.Views.{request_of}
-use Rattle.scfs_agent.specs.Views as views
-use Rattle.scfs_agent.specs.Telling.{IsIts, outcome_step, pending_step, first_place, is_numbered, is_open, has_version, shows_version, reads_version}
-use Rattle.scfs_agent.specs.declared.work.Pending.{Pending}
+use Rattle.scfs_agent.specs.Telling.{IsIts, outcome_step, pending_step, is_open, has_version, shows_version, reads_version}
 use Rattle.scfs_agent.proofs.LeaseLemmas.{told_calm}
-use Rattle.scfs_agent.proofs.PendingLemmas.{any_found, none_pending, taken_found}
+use Rattle.scfs_agent.proofs.PendingLemmas.{any_found}
 use Rattle.scfs_agent.proofs.ToldLemmas.{sight_is}
 
 -- all answers
@@ -86,7 +83,7 @@ module _ (s : Setup) (a : ℕ) (given : Given) (agent : Agent Row) where
   told_asks lease request (Of_sessions (Open_read names h) (Err why)) reply is =
       ap (asked s a given agent) (sym (shows_refused (step_of (session_plan lease request (Open_read names h))) why reply.result is))
   told_asks lease request (Of_sessions (Open_write names h) (Ok (Sees sight))) reply is = absurd is
-  told_asks lease request (Of_sessions (Open_write names h) (Ok (Locks sight l))) reply is = saw_asks s a given (leased agent h l.until) request h true sight reply is
+  told_asks lease request (Of_sessions (Open_write names h) (Ok (Locks sight l))) reply is = saw_asks s a given (leased agent h l.until) request h true sight reply is.0
   told_asks lease request (Of_sessions (Open_write names h) (Ok (Completes session v n))) reply is = absurd is
   told_asks lease request (Of_sessions (Open_write names h) (Err why)) reply is =
       ap (asked s a given agent) (sym (shows_refused (step_of (session_plan lease request (Open_write names h))) why reply.result is))
@@ -104,14 +101,3 @@ tells_asks s a lease agent given request o reply is its =
       by (Some x) e =
           told_asks s a given (untold agent request) lease request o reply is
           ∙ ap (λ (step : Step Row). cond (is_open step && shows_version reply.result) agent.tallies []) (sym e)
-
--- a reply to a request that was not made, and to what stands at its place
-pub reads_none : (pending : List (Request Row)) (request : RequestNo) (result : StepResult) → first_place (is_numbered request) pending ≡ length pending
-    → false ≡ reads_version (pending_step pending request) result
-reads_none pending request result place = ap (λ (p : Option (Request Row)). reads_version p result) (sym (none_pending request pending place))
-
-pub reads_some : (pending : List Pending) (request : RequestNo) (result : StepResult) (at : ℕ) (x : Pending) → at ≡ first_place (is_numbered request) (map request_of pending)
-    → slice_get pending at ≡ Some x
-    → (is_open (views.step_of x.asking) && shows_version result) ≡ reads_version (pending_step (map request_of pending) request) result
-reads_some pending request result at x place is =
-    ap (λ (p : Option (Request Row)). reads_version p result) (sym (taken_found request pending at x place is))

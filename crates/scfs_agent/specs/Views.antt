@@ -1,6 +1,8 @@
 use Rattle.std.specs.Prelude.{ℕ, ◌+◌, ◌-◌, ◌*◌, List, [], ◌∷◌, map, filter, Option, Some, None}
 use Rattle.std.specs.FinSet as set
 use Rattle.scfs_quorum_write.specs.Acks.{Acks, clouds_of}
+use Rattle.scfs_quorum_write.specs.declared.progress.Progress.{Progress}
+use Rattle.scfs_quorum_write.specs.declared.progress.Progress.TheVariants as progresses
 use Rattle.scfs_quorum_read.specs.declared.steps.ReadStep.{ReadStep}
 use Rattle.scfs_quorum_read.specs.declared.steps.ReadStep.TheVariants as read_steps
 use Rattle.scfs_session.specs.declared.sessions.Ended.{Ended}
@@ -122,3 +124,9 @@ abbrev pub next_of : ReadStep → Next (List ℕ)
 next_of (read_steps.Ask cloud) = Asks (cloud ∷ [])
 next_of read_steps.Wait = Goes_on
 next_of (read_steps.Whole contents) = Has contents
+
+-- what an acknowledgement leads to
+abbrev pub acked_next : Progress → Next (Unit {0})
+acked_next progresses.Already = Goes_on
+acked_next (progresses.Counted n) = Goes_on
+acked_next progresses.Done = Has tt
