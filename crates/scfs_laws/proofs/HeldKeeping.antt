@@ -7,8 +7,7 @@ use Rattle.scfs_base.specs.declared.cloud.CloudRequest.TheVariants as requests
 use Rattle.scfs_schedule.specs.declared.types.Event.{Event}
 use Rattle.scfs_model.specs.Format.{Setup}
 use Rattle.scfs_model.specs.Lives.{is_up}
-use Rattle.scfs_model.specs.Sayings.{Saying, Saw, Opened, Made, Described, Reads_out, Wrote, Truncated, Ended, Stored, Refuses, Lapsed, Crashed, Started}
-use Rattle.scfs_model.specs.Sayings as says
+use Rattle.scfs_model.specs.Sayings.{Saying, Saw}
 use Rattle.scfs_model.specs.Agents.{Request, Sent, Reaction}
 use Rattle.scfs_model.specs.Layers.{Row}
 use Rattle.scfs_model.specs.States.{Reply, Seat, is_there}
@@ -24,29 +23,15 @@ use Rattle.scfs_laws.proofs.HeldStays.{IsOf, Stays}
 module _ (s : Setup) (event : Event) (versions : List Version_seen) where
   saying_close : (y : Agent_seen) (z : Saying) → (after_saying s event versions y z).close ≡ y.close
   saying_close y (Saw request file number) = refl
-  saying_close y (Opened h number source size) = refl
-  saying_close y (Made id) = refl
-  saying_close y (Described n) = refl
-  saying_close y (Reads_out h shown) = refl
-  saying_close y (Wrote h size) = refl
-  saying_close y (Truncated h size) = refl
-  saying_close y (Ended h) = refl
-  saying_close y (Stored h number) = refl
-  saying_close y (Refuses why) = refl
-  saying_close y (Lapsed h) = refl
-  saying_close y Crashed = refl
-  saying_close y (Started incarnation) = refl
-  saying_close y says.Ready = refl
+  saying_close y _ = refl
 
   says_close : (said : List Saying) (y : Agent_seen) → (fold (after_saying s event versions) y said).close ≡ y.close
   says_close [] y = refl
   says_close (z ∷ rest) y = says_close rest (after_saying s event versions y z) ∙ saying_close y z
 
   body_close : (y : Agent_seen) (request : RequestNo) (c : ℕ) (body : CloudRequest) → (after_body y request c body).close ≡ y.close
-  body_close y request c (requests.Put name body) = refl
   body_close y request c (requests.Get name limit) = refl
-  body_close y request c (requests.Delete name) = refl
-  body_close y request c (requests.List prefix) = refl
+  body_close y request c _ = refl
 
   sent_close : (sent : List Sent) (y : Agent_seen) → (fold after_sent y sent).close ≡ y.close
   sent_close [] y = refl

@@ -12,7 +12,7 @@ use Rattle.scfs_schedule.specs.declared.types.Line.{Line}
 use Rattle.scfs_session.specs.Contents.{bytes_from}
 use Rattle.scfs_model.specs.Format.{Setup}
 use Rattle.scfs_model.specs.History.{Message}
-use Rattle.scfs_model.specs.Sayings.{Saying, Saw, Opened, Made, Described, Reads_out, Wrote, Truncated, Ended, Stored, Refuses, Lapsed, Crashed, Started, Ready, said_by}
+use Rattle.scfs_model.specs.Sayings.{Saying, Saw, Opened, Reads_out, Wrote, Truncated, Started, said_by}
 use Rattle.scfs_model.specs.Agents.{Request, Sent, Reaction}
 use Rattle.scfs_model.specs.Layers.{Row}
 use Rattle.scfs_model.specs.States.{Reply, request_line}
@@ -100,18 +100,10 @@ module _ (s : Setup) (event : Event) (message : Option Message) (a : ℕ) where
   saying_becomes bytes x (Saw request file number) own =
       of_same_agent a request.agent (with_reading (λ r. reading_of s x.versions file number)) x own
   saying_becomes bytes x (Opened h number source size) own = of_agent_becomes a (λ y. with_bytes h (bytes_opened s y.reading source) y) x
-  saying_becomes bytes x (Made id) own = nothing_becomes a x
-  saying_becomes bytes x (Described n) own = nothing_becomes a x
-  saying_becomes bytes x (Reads_out h shown) own = nothing_becomes a x
   saying_becomes bytes x (Wrote h size) own = of_agent_becomes a (λ y. with_bytes h (edited event (y.bytes h)) y) x
   saying_becomes bytes x (Truncated h size) own = of_agent_becomes a (λ y. with_bytes h (edited event (y.bytes h)) y) x
-  saying_becomes bytes x (Ended h) own = nothing_becomes a x
-  saying_becomes bytes x (Stored h number) own = nothing_becomes a x
-  saying_becomes bytes x (Refuses why) own = nothing_becomes a x
-  saying_becomes bytes x (Lapsed h) own = nothing_becomes a x
-  saying_becomes bytes x Crashed own = nothing_becomes a x
   saying_becomes bytes x (Started incarnation) own = of_agent_becomes a (with_incarnation incarnation) x
-  saying_becomes bytes x Ready own = nothing_becomes a x
+  saying_becomes bytes x _ own = nothing_becomes a x
 
   says_become : (bytes : ℕ → List ℕ) (says : List Saying) (x : Seen) → Each (IsSaid event a bytes) says
       → Becomes a x (fold (seen_line s event message) x (map (said_by a) says)) (fold (after_saying s event x.versions) (x.agents a) says)

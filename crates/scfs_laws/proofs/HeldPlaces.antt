@@ -15,7 +15,7 @@ use Rattle.scfs_model.specs.Names.{upload_no}
 use Rattle.scfs_model.specs.Format.{Setup}
 use Rattle.scfs_model.specs.History.{Message}
 use Rattle.scfs_model.specs.Given.{Given}
-use Rattle.scfs_model.specs.Sayings.{Saying, Saw, Opened, Made, Described, Reads_out, Wrote, Truncated, Ended, Stored, Refuses, Lapsed, Crashed, Started, Ready, said_by}
+use Rattle.scfs_model.specs.Sayings.{Saying, Reads_out, said_by}
 use Rattle.scfs_model.specs.Agents.{Sent, Input, Calls, Reaction}
 use Rattle.scfs_model.specs.Reactions.{reacted}
 use Rattle.scfs_model.specs.Layers.{Row, rows}
@@ -38,20 +38,8 @@ use Rattle.scfs_laws.proofs.HeldSpace.{IsSeenIn, IsShown, Keeps, get_cases}
 
 module _ (event : Event) (bytes : ℕ → ℕ → List ℕ) (a : ℕ) (y : Agent_seen) where
   saying_shown : (z : Saying) → y.bytes ≡ bytes a → IsSaid event a y.bytes z → IsShown event bytes (said_by a z)
-  saying_shown (Saw request file number) same is = tt
-  saying_shown (Opened h number source size) same is = tt
-  saying_shown (Made id) same is = tt
-  saying_shown (Described n) same is = tt
   saying_shown (Reads_out h shown) same is = (is.0, is.1, is.2, is.3 ∙ ap (λ (at : ℕ → List ℕ). bytes_from (at h) is.0 is.1) same)
-  saying_shown (Wrote h size) same is = tt
-  saying_shown (Truncated h size) same is = tt
-  saying_shown (Ended h) same is = tt
-  saying_shown (Stored h number) same is = tt
-  saying_shown (Refuses why) same is = tt
-  saying_shown (Lapsed h) same is = tt
-  saying_shown Crashed same is = tt
-  saying_shown (Started incarnation) same is = tt
-  saying_shown Ready same is = tt
+  saying_shown _ same is = tt
 
   says_shown : (says : List Saying) → y.bytes ≡ bytes a → Each (IsSaid event a y.bytes) says → Each (IsShown event bytes) (map (said_by a) says)
   says_shown [] same is = tt

@@ -1,5 +1,5 @@
 -- What an agent is told of its steps leaves what is seen of it tied to its seat.
-use Rattle.std.proofs.Common.{◌≡◌, ℕ, ◌+◌, ◌≤◌, List, [], ◌∷◌, ◌++◌, arith, true, false, Option, Some, None, Ok, Err}
+use Rattle.std.proofs.Common.{◌≡◌, ℕ, ◌+◌, ◌≤◌, List, [], ◌∷◌, ◌++◌, arith, true, false, Option, Some, None, Ok, Err, refl, sym, subst}
 use Rattle.scfs_base.specs.declared.naming.RequestNo.{RequestNo}
 use Rattle.scfs_schedule.specs.declared.types.Event.{Event}
 use Rattle.scfs_model.specs.Format.{Setup}
@@ -11,8 +11,7 @@ use Rattle.scfs_model.specs.LockSteps.{Lock_step, Unlock, Unlock_all, Renew, Loc
 use Rattle.scfs_model.specs.NameSteps.{Name_outcome, Makes, Shows}
 use Rattle.scfs_model.specs.SessionSteps.{Session_step, Open_read, Open_write, Commit, Session_outcome, Sees, Locks, Completes}
 use Rattle.scfs_model.specs.Steps.{Outcome, Of_names, Of_locks, Of_sessions}
-use Rattle.scfs_model.specs.Sayings.{Saying, Saw, Opened, Made, Described, Reads_out, Wrote, Truncated, Ended, Stored, Refuses, Lapsed, Crashed, Started}
-use Rattle.scfs_model.specs.Sayings as says
+use Rattle.scfs_model.specs.Sayings.{Saying, Saw, Opened, Made, Described, Reads_out, Wrote, Truncated, Stored, Refuses, Started}
 use Rattle.scfs_model.specs.Agents.{Waiting, For_step, For_clouds, For_close, Closed, Request, Agent, answered, Reaction}
 use Rattle.scfs_model.specs.Leases.{leased, unleased}
 use Rattle.scfs_model.specs.Told.{name_answer, is_pending, untold, told_locks, told_open, told_closed, told_commit, told_sessions, told, tells}
@@ -21,7 +20,7 @@ use Rattle.scfs_model.specs.States.{Reply}
 use Rattle.scfs_laws.specs.Held.{Version_seen, Agent_seen}
 use Rattle.scfs_laws.proofs.HeldSeats.{latest, IsStepping, IsCommitting, ResultFits, OutcomeFits, SessionFits, Fits, busy, busy_asked, step_of, busy_replied, Between, Seated}
 use Rattle.scfs_laws.proofs.HeldSteps.{none_asked, any_change}
-use Rattle.scfs_laws.proofs.HeldLines.{Does}
+use Rattle.scfs_laws.proofs.HeldLines.{IsSaid, after_saying, Does}
 use Rattle.scfs_laws.proofs.HeldDoing.{at, seat_of, says_none, otherwise, silent_does, either_does}
 use Rattle.scfs_laws.proofs.HeldOpens.{saw_does}
 
@@ -58,31 +57,26 @@ module _ (s : Setup) (event : Event) (a : ℕ) (versions : List Version_seen) (y
         (any_change s a versions (latest y) (latest y) waiting None closed [] asked replied none is.steps);
   }
 
+  plain_said : (z : Saying) → IsPlain z → IsSaid event a y.bytes z × ((w : Agent_seen) → after_saying s event versions w z ≡ w)
+  plain_said (Saw request file number) plain = absurd plain
+  plain_said (Opened h number source size) plain = absurd plain
+  plain_said (Reads_out h bytes) plain = absurd plain
+  plain_said (Wrote h size) plain = absurd plain
+  plain_said (Truncated h size) plain = absurd plain
+  plain_said (Started incarnation) plain = absurd plain
+  plain_said _ plain = (tt, λ w. refl)
+
   answered_does : (agent : Agent Row) (waiting later : Option (Waiting Row)) (closed : List (Closed Row)) (z : Saying) → IsPlain z
       → Sits (at agent waiting closed) → busy_asked asked + busy_replied replied ≡ 0
       → Doing (answered (at agent later []) z)
-  answered_does agent waiting later closed (Saw request file number) plain is none = absurd plain
-  answered_does agent waiting later closed (Opened h number source size) plain is none = absurd plain
-  answered_does agent waiting later closed
-      (Made id) plain is none = record { seated = answered_seated agent waiting closed is none; says = (tt, tt); sent = tt }
-  answered_does agent waiting later closed
-      (Described n) plain is none = record { seated = answered_seated agent waiting closed is none; says = (tt, tt); sent = tt }
-  answered_does agent waiting later closed (Reads_out h bytes) plain is none = absurd plain
-  answered_does agent waiting later closed (Wrote h size) plain is none = absurd plain
-  answered_does agent waiting later closed (Truncated h size) plain is none = absurd plain
-  answered_does agent waiting later closed
-      (Ended h) plain is none = record { seated = answered_seated agent waiting closed is none; says = (tt, tt); sent = tt }
-  answered_does agent waiting later closed (Stored h number) plain is none = record
-      { seated = answered_seated agent waiting closed is none; says = (tt, tt); sent = tt }
-  answered_does agent waiting later closed
-      (Refuses why) plain is none = record { seated = answered_seated agent waiting closed is none; says = (tt, tt); sent = tt }
-  answered_does agent waiting later closed
-      (Lapsed h) plain is none = record { seated = answered_seated agent waiting closed is none; says = (tt, tt); sent = tt }
-  answered_does agent waiting later closed
-      Crashed plain is none = record { seated = answered_seated agent waiting closed is none; says = (tt, tt); sent = tt }
-  answered_does agent waiting later closed (Started incarnation) plain is none = absurd plain
-  answered_does agent waiting later closed
-      says.Ready plain is none = record { seated = answered_seated agent waiting closed is none; says = (tt, tt); sent = tt }
+  answered_does agent waiting later closed z plain is none =
+      let said = plain_said z plain in
+      record {
+        seated = subst (λ w. Seated s versions a w (seat_of (at agent None []) (asked ++ []) replied)) (sym (said.1 y))
+            (answered_seated agent waiting closed is none);
+        says = (said.0, tt);
+        sent = tt;
+      }
 
   -- a step on names
   name_does : (agent : Agent Row) (waiting : Option (Waiting Row)) (closed : List (Closed Row)) (r : OrRefusal Name_outcome) → IsStepping waiting

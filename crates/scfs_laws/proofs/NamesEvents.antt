@@ -4,15 +4,12 @@ use Rattle.scfs_base.specs.declared.naming.RequestNo.{RequestNo}
 use Rattle.scfs_schedule.specs.declared.types.Line.{Line}
 use Rattle.scfs_schedule.specs.declared.types.Line.TheVariants as lines
 use Rattle.scfs_model.specs.Format.{Setup}
-use Rattle.scfs_model.specs.History.{Message, History}
+use Rattle.scfs_model.specs.History.{Message}
 use Rattle.scfs_model.specs.Versions.{Versions}
-use Rattle.scfs_model.specs.Given.{Given, given_of}
-use Rattle.scfs_model.specs.Tree.{Tree, empty_tree, live}
-use Rattle.scfs_model.specs.Steps.{Step, served}
+use Rattle.scfs_model.specs.Given.{Given}
 use Rattle.scfs_model.specs.Agents.{Request, Input, Calls, Tells, Hears, Turns, Crashes, Starts}
-use Rattle.scfs_model.specs.Events.{At_agent, Call_comes, Turn_comes, Crash_comes, Start_comes, Place, place_of}
+use Rattle.scfs_model.specs.Events.{At_agent, Call_comes, Turn_comes, Crash_comes, Start_comes, Place}
 use Rattle.scfs_model.specs.States.{Reply, Seat, State, Effect, sum_of, leaving, with_seat, postpones, comes, serves, at_place}
-use Rattle.scfs_model.specs.Runs.{state_after}
 use Rattle.scfs_laws.proofs.Lists.{Each}
 use Rattle.scfs_laws.proofs.Ways.{IsIdle, own_input, of_event}
 
