@@ -10,7 +10,7 @@ use Rattle.scfs_model.specs.Agents.{Request}
 use Rattle.scfs_model.specs.States.{Seat}
 use Rattle.scfs_model.specs.Runs.{actual}
 use Rattle.scfs_model.specs.UnitFormat.{under}
-use Rattle.scfs_laws.proofs.NewestLists.{each-map}
+use Rattle.scfs_laws.proofs.Lists.{each-map}
 use Rattle.scfs_laws.proofs.NewestOpens.{state_ok, rows_keep}
 use Rattle.scfs_agent.specs.Telling.{pending_step, is_numbered, outcome_step, IsIts}
 use Rattle.scfs_world.specs.Happening.{StandingAreShown}

@@ -13,7 +13,7 @@ use Rattle.scfs_model.specs.Reactions.{reacted}
 use Rattle.scfs_model.specs.States.{Reply, Seat}
 use Rattle.scfs_laws.proofs.HeldSeats.{step_of}
 use Rattle.scfs_laws.proofs.Moves.{Known, has_up, IsInput, Moves, reacts}
-use Rattle.scfs_laws.proofs.NewestLists.{Each, chosen, each-map, each-append}
+use Rattle.scfs_laws.proofs.Lists.{Each, chosen, each-map, each-append}
 
 -- what an agent has pending, and which requests it drew: all of earlier incarnations, and so many of this one
 pub record Drawn : Type 0 where

@@ -15,7 +15,7 @@ use Rattle.scfs_model.specs.States.{Reply, Seat, State, first_seat, comes}
 use Rattle.scfs_model.specs.Runs.{actual}
 use Rattle.scfs_laws.proofs.HeldSeats.{step_of}
 use Rattle.scfs_laws.proofs.Moves.{has_up, IsInput, any_reply}
-use Rattle.scfs_laws.proofs.NewestLists.{Each, Places, each-append, each-moved, places_set, places_replicate}
+use Rattle.scfs_laws.proofs.Lists.{Each, Places, each-append, each-moved, places_set, places_replicate}
 use Rattle.scfs_laws.proofs.Ways.{own_input, up_there, of_event}
 use Rattle.scfs_world.proofs.WholeSeats.{drawn_of, Stands, SeatKept, anything, seat_reacted}
 
