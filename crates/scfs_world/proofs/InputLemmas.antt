@@ -15,7 +15,7 @@ use Rattle.scfs_model.specs.Sayings.{said_by}
 use Rattle.scfs_model.specs.Agents as machine
 use Rattle.scfs_model.specs.Agents.{Agent, Sent, Reaction}
 use Rattle.scfs_model.specs.States.{Seat, State, Effect, did, comes, request_line}
-use Rattle.scfs_laws.proofs.HeldSteps.{each_append}
+use Rattle.scfs_laws.proofs.Lists.{each-append}
 use Rattle.scfs_agent.specs.Reacting.{DoesAs, DoesRanked, Reacts, reaction_by}
 use Rattle.scfs_agent.specs.declared.types.Input.{Input}
 use Rattle.scfs_agent.specs.declared.types.Output.{Output}
@@ -53,7 +53,7 @@ module _ (allows : RankFacts → ℕ → Type 0) (now : ℕ) (space : List Tuple
               d.asked ∙ ap (λ xs. old.asked ++ xs) (steps_reacted s a header.lease r d.given does.gives)
               ∙ ap (λ xs. xs ++ map (step_asked header.lease) r.steps) shows.asked
               ∙ sym (map-append (step_asked header.lease) m.asked r.steps);
-          served = each_append CanBeServed m.asked r.steps shows.served does.asks;
+          served = each-append CanBeServed m.asked r.steps shows.served does.asks;
           replied = subst (λ xs. Together (λ n. ShowsReply header.lease) 0 xs m.replied) (sym d.replied) shows.replied;
         };
         space = holds_on now now most (most + 1) space state.tree holds (le_refl _) (omega arith);

@@ -27,7 +27,7 @@ use Rattle.scfs_model.specs.Steps.{Served, served, served_line}
 use Rattle.scfs_model.specs.Agents as machine
 use Rattle.scfs_model.specs.Agents.{Request, Agent, Calls, Tells, Hears, Turns, Crashes, Starts}
 use Rattle.scfs_model.specs.States.{Reply, Seat, State, Effect, leaving, with_seat, skips, is_there, comes, comes_if, comes_back, serves, postpones, tells, sum_of}
-use Rattle.scfs_laws.proofs.SoundLists.{each_moved}
+use Rattle.scfs_laws.proofs.Lists.{each-moved}
 use Rattle.scfs_agent.specs.Reacting.{DoesRanked, Reacts}
 use Rattle.scfs_agent.specs.Telling.{IsTold}
 use Rattle.scfs_agent.specs.declared.types.Input.{Input}
@@ -246,7 +246,7 @@ module _ (allows : RankFacts → ℕ → Type 0) (now : ℕ) (space left : List 
             no = at.seat.no;
             agent = at.seat.agent;
             asked = sym (map-append (step_asked header.lease) ys (y ∷ [])) ∙ ap (λ xs. map (step_asked header.lease) (moved_back xs)) (sym are);
-            served = each_moved CanBeServed m.asked at.seat.served;
+            served = each-moved CanBeServed m.asked at.seat.served;
             replied = at.seat.replied;
           });
       space = subst (λ ts. Holds now (most + 1) ts state.tree) (sym stays)
