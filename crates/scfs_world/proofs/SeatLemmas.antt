@@ -42,7 +42,7 @@ use Rattle.scfs_world.specs.declared.fault.StepFault.{StepFault}
 use Rattle.scfs_world.specs.declared.fault.StepFault.TheVariants as faults
 use Rattle.scfs_world.specs.declared.seat.StepReply.{StepReply}
 use Rattle.scfs_world.proofs.DoneLemmas.{if_keeps, told_keeps, served_keeps, postponed_keeps}
-use Rattle.scfs_world.proofs.FitLemmas.{told_fits}
+use Rattle.scfs_agent.proofs.ToldLemmas.{told_fits}
 use Rattle.scfs_world.proofs.InputLemmas.{comes_does}
 use Rattle.scfs_world.proofs.ServedLines.{line_served}
 use Rattle.scfs_world.proofs.TogetherLemmas.{one_behind, from_any}
