@@ -2,5 +2,6 @@ pub mod Closing
 pub mod Edges
 pub mod Finishing
 pub mod Headline
+pub mod Pace
 pub mod Playing
 pub mod Plays
