@@ -36,7 +36,7 @@ usage_end : (line : ℕ) (filled : Filled) → statuses.Usage ≡ closing_status
 usage_end line filleds.End h = cc
 usage_end line filleds.Fault h = cc
 usage_end line filleds.Full h = cc
-usage_end line filleds.Memory h = cc
+usage_end line filleds.Open h = cc
 
 usage_bad : (line : ℕ) (kind : BadKind) (filled : Filled) → statuses.Usage ≡ closing_status (bad_closing line kind filled) → ⊥
 usage_bad line kinds.End filled h = usage_end line filled h
@@ -70,7 +70,7 @@ fault_end : (line : ℕ) (filled : Filled) → statuses.ReadFault ≡ closing_st
 fault_end line filleds.End h = cc
 fault_end line filleds.Fault h = refl
 fault_end line filleds.Full h = cc
-fault_end line filleds.Memory h = cc
+fault_end line filleds.Open h = cc
 
 fault_bad : (line : ℕ) (kind : BadKind) (filled : Filled) → statuses.ReadFault ≡ closing_status (bad_closing line kind filled) → filled ≡ filleds.Fault
 fault_bad line kinds.End filled h = fault_end line filled h

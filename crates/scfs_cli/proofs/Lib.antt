@@ -1,5 +1,9 @@
-pub mod CallLemmas
 pub mod ClosingLemmas
 pub mod EdgeLemmas
-pub mod HistoryLemmas
+pub mod GivingLemmas
+pub mod GoingLemmas
+pub mod PaceLemmas
+pub mod PlayedLemmas
+pub mod ReplayLemmas
+pub mod RunLemmas
 pub mod TurnLemmas

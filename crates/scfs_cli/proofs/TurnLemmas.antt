@@ -1,6 +1,5 @@
-use Rattle.std.proofs.Common.{◌≡◌, ◌<◌, ◌≤◌, ◌^◌, ℕ, ◌+◌, List, [], ◌∷◌, refl, ap, ◌∙◌, sym, subst, Option, length, arith}
+use Rattle.std.proofs.Common.{◌≡◌, ◌<◌, ◌≤◌, ◌^◌, ℕ, ◌+◌, List, [], ◌∷◌, ◌++◌, refl, ap, ◌∙◌, sym, subst, Option, None, length, arith}
 use Rattle.std.specs.List.{flat_map}
-use Rattle.scfs_base.specs.Outside.{Puts}
 use Rattle.scfs_policy.specs.declared.rank.RankFacts.{RankFacts}
 use Rattle.scfs_schedule.specs.declared.types.Event.{Event}
 use Rattle.scfs_schedule.specs.declared.types.Header.{Header}
@@ -18,13 +17,12 @@ use Rattle.scfs_world.specs.Happening.{Stands}
 use Rattle.scfs_world.specs.Stepping.{IsTooLarge}
 use Rattle.scfs_world.specs.Whole.{StatesAreWhole}
 use Rattle.scfs_world.specs.State.{WorldState}
-use Rattle.scfs_cli.specs.declared.closing.Finish.{Finish}
 use Rattle.scfs_cli.specs.declared.play.Turn.{Turn}
 use Rattle.scfs_cli.specs.declared.play.Turn.TheVariants as turns
-use Rattle.scfs_cli.specs.Edges.{GetsPart}
+use Rattle.scfs_cli.specs.Edges.{GetsPart, Passes}
 use Rattle.scfs_cli.specs.Finishing.{IsTooLargeNext}
-use Rattle.scfs_cli.specs.Plays.{Turns, IsNext, entry_text}
-use Rattle.scfs_cli.proofs.EdgeLemmas.{puts_nothing}
+use Rattle.scfs_cli.specs.Plays.{Turns, IsNext, entry_text, finish_of_turn}
+use Rattle.scfs_cli.proofs.EdgeLemmas.{passes_nothing}
 
 -- what a world did in an event: the entry whose lines it gave, and that it stands for the history with it
 pub record Did (allows : RankFacts → ℕ → Type 0) (header : Header) (past : History) (event : Event) (world : WorldState) (lines : List Line) : Type 0 where
@@ -33,13 +31,13 @@ pub record Did (allows : RankFacts → ℕ → Type 0) (header : Header) (past :
   pub said : entry.lines ≡ lines
   pub stands : Stands world header (entry ∷ past)
 
--- what was written of its lines, by how the turn ended
-pub record Wrote (world : WorldState) (lines : List Line) (before after : Option (List ℕ)) (turn : Turn) : Type 0 where
-  pub done : (next : WorldState) → turn ≡ turns.Done next → (next ≡ world) × Puts before after (flat_map (numbered world.events) lines)
-  pub goes_on : (finish : Finish) → turn ≡ turns.Finished finish → ⊥
+-- what became of its lines, by how the turn ended
+pub record Pushed (world : WorldState) (lines : List Line) (before after : Option (List ℕ)) (waiting waiting' : List ℕ) (turn : Turn) : Type 0 where
+  pub done : (next : WorldState) → turn ≡ turns.Done next → (next ≡ world) × Passes before after waiting waiting' (flat_map (numbered world.events) lines)
+  pub goes_on : finish_of_turn turn ≡ None
   pub small : turn ≡ turns.TooLarge → ⊥
-  pub front : turn ≡ turns.WriteFault → GetsPart before after (flat_map (numbered world.events) lines)
-  pub nothing : turn ≡ turns.Memory → after ≡ before
+  pub part : turn ≡ turns.WriteFault → GetsPart before after (waiting ++ flat_map (numbered world.events) lines)
+  pub nothing : turn ≡ turns.Memory → (after ≡ before) × (waiting' ≡ waiting)
 
 same_text : (allows : RankFacts → ℕ → Type 0) (header : Header) (past : History) (event : Event) (world : WorldState) (lines : List Line) (did : Did allows header past event world lines) →
     flat_map (numbered world.events) lines ≡ entry_text past did.entry
@@ -47,18 +45,21 @@ same_text allows header past event world lines did =
     let number : world.events ≡ length past + 1 = did.stands.count ∙ omega arith in
     ap (λ n. flat_map (numbered n) lines) number ∙ ap (λ ls. flat_map (numbered (length past + 1)) ls) (sym did.said)
 
-pub written_turn : (allows : RankFacts → ℕ → Type 0) (header : Header) (past : History) (event : Event) (world : WorldState) (lines : List Line) (before after : Option (List ℕ)) (turn : Turn) →
-    Did allows header past event world lines → Wrote world lines before after turn → Turns allows header past event before after turn
-written_turn allows header past event world lines before after (turns.Done next) did wrote =
-    let w = wrote.done next refl in
+pub pushed_turn : (allows : RankFacts → ℕ → Type 0) (header : Header) (past : History) (event : Event) (world : WorldState) (lines : List Line) (before after : Option (List ℕ))
+    (waiting waiting' : List ℕ) (turn : Turn) → Did allows header past event world lines → Pushed world lines before after waiting waiting' turn
+    → Turns allows header past event before after waiting waiting' turn
+pushed_turn allows header past event world lines before after waiting waiting' (turns.Done next) did pushed =
+    let w = pushed.done next refl in
     let text = same_text allows header past event world lines did in
-    (did.entry, did.next, subst (λ (x : WorldState). Stands x header (did.entry ∷ past)) (sym w.0) did.stands, subst (λ t. Puts before after t) text w.1)
-written_turn allows header past event world lines before after (turns.Finished finish) did wrote = absurd (wrote.goes_on finish refl)
-written_turn allows header past event world lines before after turns.TooLarge did wrote = absurd (wrote.small refl)
-written_turn allows header past event world lines before after turns.WriteFault did wrote =
-    (did.entry, did.next, subst (λ t. GetsPart before after t) (same_text allows header past event world lines did) (wrote.front refl))
-written_turn allows header past event world lines before after turns.Memory did wrote =
-    subst (λ (o : Option (List ℕ)). Puts before o []) (sym (wrote.nothing refl)) (puts_nothing before)
+    (did.entry, did.next, subst (λ (x : WorldState). Stands x header (did.entry ∷ past)) (sym w.0) did.stands, subst (λ t. Passes before after waiting waiting' t) text w.1)
+pushed_turn allows header past event world lines before after waiting waiting' (turns.Finished finish) did pushed = let e = pushed.goes_on in cc
+pushed_turn allows header past event world lines before after waiting waiting' turns.TooLarge did pushed = absurd (pushed.small refl)
+pushed_turn allows header past event world lines before after waiting waiting' turns.WriteFault did pushed =
+    (did.entry, did.next, subst (λ t. GetsPart before after (waiting ++ t)) (same_text allows header past event world lines did) (pushed.part refl))
+pushed_turn allows header past event world lines before after waiting waiting' turns.Memory did pushed =
+    let same = pushed.nothing refl in
+    subst (λ (o : Option (List ℕ)). Passes before o waiting waiting' []) (sym same.0)
+    (subst (λ w. Passes before before waiting w []) (sym same.1) (passes_nothing before waiting))
 
 -- an event after a history, under a header and with clouds that are those of the history, would carry too many bytes
 abbrev LargeAt : (allows : RankFacts → ℕ → Type 0) → Header → History → Event → (h : Header) → NetState → Type 0

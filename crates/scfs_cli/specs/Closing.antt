@@ -61,12 +61,13 @@ status_of (lasts.BadInput line fault) = statuses.BadInput
 status_of (lasts.ReadFault which) = statuses.ReadFault
 status_of (lasts.TooLarge which) = statuses.TooLarge
 
--- the text ends in this line: that is known only where a read gave the end; a fault, or the limit, comes before
+-- the text ends in this line: that is known only where a read gave the end; a fault, or the limit, comes before; while reading is
+-- open, the line is read on
 abbrev pub end_closing : ℕ → Filled → Option LastLine
 end_closing line filleds.End = Some (lasts.BadInput line (faults.Bad kinds.End))
 end_closing line filleds.Fault = Some (lasts.ReadFault whichs.Input)
 end_closing line filleds.Full = Some (lasts.TooLarge whichs.Input)
-end_closing line filleds.Memory = None
+end_closing line filleds.Open = None
 
 -- a line that is not allowed
 abbrev pub bad_closing : ℕ → BadKind → Filled → Option LastLine

@@ -21,6 +21,7 @@ use Rattle.scfs_cli.specs.declared.closing.Status.{Status}
 use Rattle.scfs_cli.specs.declared.closing.Status.TheVariants as statuses
 use Rattle.scfs_cli.specs.Closing.{closing_of, closing_text, closing_status, last_line_text, status_of}
 use Rattle.scfs_cli.specs.Edges.{GetsFront, GetsPart}
+use Rattle.scfs_cli.specs.Pace.{KeepsPace}
 use Rattle.scfs_cli.specs.Playing.{played}
 
 -- out got this text; where writing failed, not all of it; where memory was wanting, a front of it
@@ -68,8 +69,8 @@ last_line count (Some finish) filled = closing_of count finish filled
 -- The headline, of bytes taken from the input: there is a history of the events that are played of what the grammar reads in them,
 -- under the header that stands in them. Its lines are those that agents, space and clouds make, each over the bytes that it was
 -- really given; each read of a session shows the bytes that the session holds; each open is of the newest version, by the lines alone; and
--- where no two different blocks share a digest it is a run of the file map, whatever the clouds answered. Out got its transcript and then the last line, which the end of what is
--- played and of the reading decide.
+-- where no two different blocks share a digest it is a run of the file map, whatever the clouds answered. Out got its transcript and then
+-- the last line, which the end of what is played and of the reading decide. Reading kept pace with what out got.
 pub record ReplaysText (allows : RankFacts → ℕ → Type 0) (taken : List ℕ) (filled : Filled) (before after : Option (List ℕ)) (status : Status) : Type 0 where
   pub header : Header
   pub past : History
@@ -82,6 +83,7 @@ pub record ReplaysText (allows : RankFacts → ℕ → Type 0) (taken : List ℕ
   pub run : NoClash header past → Run (under header) past
   pub wrote : GetsText status before after (transcript past ++ closing_text (last_line (length past) finish filled))
   pub decided : IsStatus status (last_line (length past) finish filled)
+  pub pace : KeepsPace past taken before after
 
 -- The whole of it: so it is of the bytes taken, where the source tells them. At the end of the input nothing is left.
 pub record Replays (allows : RankFacts → ℕ → Type 0) (left left' before after : Option (List ℕ)) (filled : Filled) (status : Status) : Type 0 where

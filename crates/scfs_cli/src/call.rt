@@ -1,17 +1,13 @@
-ghost use Rattle.std.specs.Prelude.{◌≡◌, List, ℕ, [], true, false, map, string_bytes};
+ghost use Rattle.std.specs.Prelude.{◌≡◌, true, false, map, string_bytes};
 ghost use Rattle.scfs_base.specs.Outside.{Rose};
 ghost use Rattle.scfs_policy.specs.Rank.{IsRankRule};
-ghost use Rattle.scfs_schedule.specs.Reading.{IsAtEvents, gives, read};
-ghost use Rattle.scfs_cli.specs.Headline.{Closes, ReplaysInput, ReplaysText, is_replay};
-ghost use Rattle.scfs_schedule.specs.declared.types.Header.{Header};
-ghost use Rattle.scfs_cli.specs.declared.closing.Filled.{Filled};
+ghost use Rattle.scfs_cli.specs.Headline.{Closes, ReplaysInput, is_replay};
 
-use crate::closing::{Filled, LastLine, Status, closing_line};
-use crate::edges::{fill, write_all};
+use crate::closing::{LastLine, Status, closing_line};
+use crate::edges::write_all;
 use crate::play::{Played, play};
 use scfs_base::{Failed, Sink, Source};
 use scfs_policy::{RankFacts, RankRule};
-use scfs_schedule::Reader;
 use std::alloc::Global;
 
 /// Writes the last line, and gives its status.
@@ -28,30 +24,6 @@ fn close<O: Sink>(alloc: Global, last: LastLine, out: &mut O) -> Status
     }
 }
 
-/// Plays what was read, and writes the last line.
-fn finish<O: Sink, R: Fn(RankFacts) -> u64>(
-    alloc: Global,
-    reader: &mut Reader,
-    filled: Filled,
-    rank: &RankRule<R>,
-    out: &mut O,
-) -> Status
-    requires place { (header : Header) → ¬ IsAtEvents reader.old header }
-    requires rank { IsRankRule (R.pre rank.now) }
-    ensures replays { (taken : List ℕ) → gives reader.old [] ≡ read false taken →
-        ReplaysText (R.post rank.now) taken filled (O.written out.old) (O.written out.new) result }
-    ensures fault { result ≡ Status.WriteFault → Rose (O.faults out.old) (O.faults out.new) }
-{
-    match play(alloc, reader, rank, out) {
-        Played::WriteFault => Status::WriteFault,
-        Played::Memory => Status::Memory,
-        Played::Ended(events, finish) => match closing_line(events, finish, filled) {
-            Some(last) => close(alloc, last, out),
-            None => Status::Memory,
-        },
-    }
-}
-
 /// Replays the schedule on the input.
 fn replay<I: Source, O: Sink, R: Fn(RankFacts) -> u64>(
     alloc: Global,
@@ -64,11 +36,13 @@ fn replay<I: Source, O: Sink, R: Fn(RankFacts) -> u64>(
         (I.ends input.old) (I.ends input.new) (I.faults input.old) (I.faults input.new) result }
     ensures fault { result ≡ Status.WriteFault → Rose (O.faults out.old) (O.faults out.new) }
 {
-    let mut reader = Reader::new(alloc, false);
-    let filled = fill(input, &mut reader);
-    match filled {
-        Filled::Memory => Status::Memory,
-        Filled::End | Filled::Fault | Filled::Full => finish(alloc, &mut reader, filled, rank, out),
+    match play(alloc, input, rank, out) {
+        Played::WriteFault => Status::WriteFault,
+        Played::Memory => Status::Memory,
+        Played::Ended(events, finish, filled) => match closing_line(events, finish, filled) {
+            Some(last) => close(alloc, last, out),
+            None => Status::Memory,
+        },
     }
 }
 

@@ -6,14 +6,14 @@ use scfs_schedule::{Bad, BadKind, Ending, Stop, Which};
 use std::alloc::Global;
 use std::fmt;
 
-/// How reading the input ended: a read gave the end, a read failed, one byte more than is looked at was read, or memory was
-/// wanting.
+/// How reading the input ended: a read gave the end, a read failed, or one byte more than is looked at was read; or it is open,
+/// since the run ended first.
 #[derive(Clone, Copy, Debug, PartialEq, Eq)]
 pub enum Filled {
     End,
     Fault,
     Full,
-    Memory,
+    Open,
 }
 
 /// How what is played of a text ends.
@@ -183,7 +183,7 @@ fn stop_line(stop: Stop, filled: Filled) -> Option<LastLine>
             Filled::End => Some(LastLine::BadInput(line, LineFault::Bad(BadKind::End))),
             Filled::Fault => Some(LastLine::ReadFault(Which::Input)),
             Filled::Full => Some(LastLine::TooLarge(Which::Input)),
-            Filled::Memory => None,
+            Filled::Open => None,
         },
         Stop::Bad(Bad { line, kind }) => Some(LastLine::BadInput(line, LineFault::Bad(kind))),
     }

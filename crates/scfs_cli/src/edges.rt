@@ -1,13 +1,9 @@
 ghost use Rattle.std.specs.Prelude.{◌≡◌, ◌<◌, ◌≤◌, length};
 ghost use Rattle.scfs_base.specs.Outside.{HasCause, PutsFront, Rose};
-ghost use Rattle.scfs_cli.specs.Edges.{Fills, TakesPiece};
+ghost use Rattle.scfs_cli.specs.Edges.{TakesPiece};
 
-use crate::closing::Filled;
 use scfs_base::{Failed, Sink, Source};
-use scfs_schedule::{INPUT_LIMIT, Reader};
-
-/// How many bytes are read at a time.
-const PIECE: usize = 4096;
+use scfs_schedule::Reader;
 
 /// Writes the whole piece, or with a failure a front of it.
 pub fn write_all<O: Sink>(out: &mut O, piece: &[u8]) -> Result<(), Failed>
@@ -24,7 +20,7 @@ pub fn write_all<O: Sink>(out: &mut O, piece: &[u8]) -> Result<(), Failed>
 
 /// How one read ended: so many bytes were taken and fed, or there was the end, a failure, or want of memory.
 #[derive(Clone, Copy, Debug, PartialEq, Eq)]
-enum PieceRead {
+pub enum PieceRead {
     Took(usize),
     End,
     Fault,
@@ -32,7 +28,7 @@ enum PieceRead {
 }
 
 /// Reads once into the buffer and feeds the reader what was read.
-fn feed_piece<I: Source>(input: &mut I, reader: &mut Reader, buffer: &mut [u8]) -> PieceRead
+pub fn feed_piece<I: Source>(input: &mut I, reader: &mut Reader, buffer: &mut [u8]) -> PieceRead
     requires { 0 < length buffer.old }
     ensures takes { TakesPiece (I.left input.old) (I.left input.new) reader.old reader.new (length buffer.old) result }
     ensures ended { result ≡ PieceRead.End → Rose (I.ends input.old) (I.ends input.new) }
@@ -48,24 +44,4 @@ fn feed_piece<I: Source>(input: &mut I, reader: &mut Reader, buffer: &mut [u8]) 
             Err(_) => PieceRead::Memory,
         },
     }
-}
-
-/// Feeds the reader all bytes of the input, up to one more than are looked at.
-pub fn fill<I: Source>(input: &mut I, reader: &mut Reader) -> Filled
-    ensures fills { Fills (I.left input.old) (I.left input.new) reader.old reader.new result }
-    ensures ended { result ≡ Filled.End → Rose (I.ends input.old) (I.ends input.new) }
-    ensures fault { result ≡ Filled.Fault → Rose (I.faults input.old) (I.faults input.new) }
-{
-    let mut buffer = [0u8; PIECE];
-    let mut room = INPUT_LIMIT + 1;
-    'reads: while room > 0 {
-        let wanted = room.min(PIECE);
-        match feed_piece(input, reader, &mut buffer[..wanted]) {
-            PieceRead::Took(count) => room -= count,
-            PieceRead::End => return Filled::End,
-            PieceRead::Fault => return Filled::Fault,
-            PieceRead::Memory => return Filled::Memory,
-        }
-    }
-    Filled::Full
 }

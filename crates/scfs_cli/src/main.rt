@@ -6,6 +6,7 @@ mod built;
 mod call;
 mod closing;
 mod edges;
+mod intake;
 mod limits;
 #[cfg(test)]
 mod lives;
@@ -17,6 +18,7 @@ mod rows;
 mod streams;
 #[cfg(test)]
 mod tests;
+mod waiting;
 
 use call::scfs;
 use closing::Status;

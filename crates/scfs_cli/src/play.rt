@@ -1,44 +1,46 @@
-ghost use Rattle.std.specs.Prelude.{◌≡◌, ◌+◌, ◌<◌, ◌≤◌, ℕ, [], ◌∷◌, IfOk, true, Some, None};
+ghost use Rattle.std.specs.Prelude.{◌≡◌, ◌+◌, ◌<◌, ◌≤◌, ◌++◌, List, ℕ, [], true, false, None, IfErr, IfOk};
 ghost use Rattle.std.specs.List.{flat_map};
 ghost use Rattle.scfs_base.specs.Limits.{events_limit};
-ghost use Rattle.scfs_base.specs.Outside.{Puts, Rose};
-ghost use Rattle.scfs_cli.specs.Edges.{GetsPart};
+ghost use Rattle.scfs_base.specs.Outside.{Rose};
 ghost use Rattle.scfs_policy.specs.Rank.{IsRankRule};
 ghost use Rattle.scfs_schedule.specs.Grammar.{IsEvent};
-ghost use Rattle.scfs_schedule.specs.Reading.{IsAtEvents, IsDrained, gives};
+ghost use Rattle.scfs_schedule.specs.Reading.{read};
 ghost use Rattle.scfs_schedule.specs.Text.{numbered};
 ghost use Rattle.scfs_schedule.specs.declared.types.Header.{Header};
-ghost use Rattle.scfs_world.specs.Built.{is_built};
 ghost use Rattle.scfs_model.specs.History.{History};
-ghost use Rattle.scfs_world.specs.Happening.{IsPlayed};
-ghost use Rattle.scfs_world.specs.Happening.{Stands};
+ghost use Rattle.scfs_world.specs.Built.{is_built, is_built_header};
+ghost use Rattle.scfs_world.specs.Happening.{IsPlayed, Stands};
 ghost use Rattle.scfs_world.specs.State.{WorldState};
-ghost use Rattle.scfs_world.specs.Stepping.{IsWorld, IsShown};
-ghost use Rattle.scfs_cli.specs.Playing.{events_played, finish_at, played};
+ghost use Rattle.scfs_world.specs.Stepping.{IsShown, IsWorld};
+ghost use Rattle.scfs_cli.specs.Edges.{GetsPart, Passes};
+ghost use Rattle.scfs_cli.specs.Giving.{IsFresh, Tells};
+ghost use Rattle.scfs_cli.specs.Playing.{finish_at, played};
+ghost use Rattle.scfs_cli.specs.Plays.{EndsAtOnce, Plays, Ran, SoFar, Turns, filled_at_begin, filled_of, finish_of, finish_of_turn};
 ghost use Rattle.scfs_cli.specs.declared.closing.Finish.{Finish};
-ghost use Rattle.scfs_cli.specs.Plays.{Begins, GoesOn, Plays, PlaysEvents, Turns};
 
 use crate::built::finish_at;
-use crate::closing::Finish;
-use crate::edges::write_all;
-use scfs_base::{Bytes, Failed, Memory, Sink};
+use crate::closing::{Filled, Finish};
+use crate::intake::{Given, Intake};
+use crate::waiting::{PushFault, Waiting};
+use scfs_base::{Failed, Memory, Sink, Source};
 use scfs_laws::{no_clash_before, opens_are_newest, reads_are_held};
 use scfs_policy::{RankFacts, RankRule};
-use scfs_schedule::{Ending, Event, Header, Item, Line, Reader, Stop, push_line};
+use scfs_schedule::Event;
 use scfs_world::{
     StepFault, Stepped, World, is_built_header, standing_worlds_are_shown, states_are_whole,
 };
 use std::alloc::Global;
 
-/// How playing a schedule ended: it came to its finish after so many events, writing failed, or memory was wanting.
+/// How playing a schedule ended: it came to its finish after so many events, reading having ended so; or writing failed, or memory
+/// was wanting.
 #[derive(Clone, Copy, Debug, PartialEq, Eq)]
 pub enum Played {
-    Ended(u64, Finish),
+    Ended(u64, Finish, Filled),
     WriteFault,
     Memory,
 }
 
-/// How one event's turn ended: its lines were written, and this is the world now; or it ends what is played and nothing was
+/// How one event's turn ended: its lines wait or are written, and this is the world now; or it ends what is played and nothing was
 /// done; or it would carry too many bytes; or writing failed, or memory was wanting.
 #[derive(Drop)]
 pub enum Turn {
@@ -49,23 +51,13 @@ pub enum Turn {
     Memory,
 }
 
-/// The text of an event's lines.
-fn text_of(alloc: Global, number: u64, lines: &[Line]) -> Result<Bytes, Memory>
-    ensures { IfOk result (λ text. text ≡ flat_map (numbered number) lines.now) }
-{
-    let mut text = Bytes::new(alloc);
-    for line in lines {
-        push_line(alloc, number, line, &mut text)?;
-    }
-    Ok(text)
-}
-
-/// Steps the world by an event and writes its lines.
+/// Steps the world by an event and lets its lines wait.
 fn take_turn<O: Sink, R: Fn(RankFacts) -> u64>(
     alloc: Global,
     world: World,
     event: &Event,
     rank: &RankRule<R>,
+    waiting: &mut Waiting,
     out: &mut O,
 ) -> Turn
     requires world { IsWorld world }
@@ -75,10 +67,10 @@ fn take_turn<O: Sink, R: Fn(RankFacts) -> u64>(
     requires room { world.events < events_limit }
     requires rank { IsRankRule (R.pre rank.now) }
     ensures turns { (header : Header) (past : History) → Stands world header past → IsPlayed (R.post rank.now) header past →
-        Turns (R.post rank.now) header past event.now (O.written out.old) (O.written out.new) result }
+        Turns (R.post rank.now) header past event.now (O.written out.old) (O.written out.new) waiting.old waiting.new result }
     ensures done { (next : WorldState) → result ≡ Turn.Done next → (next.header ≡ world.header) × (next.events ≡ world.events + 1) }
     ensures world { (next : WorldState) → result ≡ Turn.Done next → IsWorld next }
-    ensures goes_on { (finish : Finish) → result ≡ Turn.Finished finish → ⊥ }
+    ensures goes_on { finish_of_turn result ≡ None }
     ensures fault { result ≡ Turn.WriteFault → Rose (O.faults out.old) (O.faults out.new) }
     ensures later { O.faults out.old ≤ O.faults out.new }
 {
@@ -88,29 +80,27 @@ fn take_turn<O: Sink, R: Fn(RankFacts) -> u64>(
             StepFault::TooLarge => Turn::TooLarge,
             StepFault::Memory => Turn::Memory,
         },
-        Ok(stepped) => write_lines(alloc, stepped, out),
+        Ok(stepped) => push_lines(alloc, stepped, waiting, out),
     }
 }
 
-/// Writes the lines of the event that a world did last.
-fn write_lines<O: Sink>(alloc: Global, stepped: Stepped, out: &mut O) -> Turn
-    ensures done { (next : WorldState) → result ≡ Turn.Done next →
-        (next ≡ stepped.world) × Puts (O.written out.old) (O.written out.new) (flat_map (numbered stepped.world.events) stepped.lines) }
-    ensures goes_on { (finish : Finish) → result ≡ Turn.Finished finish → ⊥ }
+/// Lets the lines wait of the event that a world did last.
+fn push_lines<O: Sink>(alloc: Global, stepped: Stepped, waiting: &mut Waiting, out: &mut O) -> Turn
+    ensures done { (next : WorldState) → result ≡ Turn.Done next → (next ≡ stepped.world)
+        × Passes (O.written out.old) (O.written out.new) waiting.old waiting.new (flat_map (numbered stepped.world.events) stepped.lines) }
+    ensures goes_on { finish_of_turn result ≡ None }
     ensures small { result ≡ Turn.TooLarge → ⊥ }
-    ensures front { result ≡ Turn.WriteFault →
-        GetsPart (O.written out.old) (O.written out.new) (flat_map (numbered stepped.world.events) stepped.lines) }
-    ensures nothing { result ≡ Turn.Memory → O.written out.new ≡ O.written out.old }
+    ensures part { result ≡ Turn.WriteFault →
+        GetsPart (O.written out.old) (O.written out.new) (waiting.old ++ flat_map (numbered stepped.world.events) stepped.lines) }
+    ensures nothing { result ≡ Turn.Memory → (O.written out.new ≡ O.written out.old) × (waiting.new ≡ waiting.old) }
     ensures fault { result ≡ Turn.WriteFault → Rose (O.faults out.old) (O.faults out.new) }
     ensures later { O.faults out.old ≤ O.faults out.new }
 {
     let Stepped { world, lines } = stepped;
-    let Ok(text) = text_of(alloc, world.events(), lines.as_slice()) else {
-        return Turn::Memory;
-    };
-    match write_all(out, text.as_slice()) {
+    match waiting.push(alloc, world.events(), lines.as_slice(), out) {
         Ok(()) => Turn::Done(world),
-        Err(Failed) => Turn::WriteFault,
+        Err(PushFault::Write) => Turn::WriteFault,
+        Err(PushFault::Memory) => Turn::Memory,
     }
 }
 
@@ -121,6 +111,7 @@ fn play_event<O: Sink, R: Fn(RankFacts) -> u64>(
     world: World,
     event: Event,
     rank: &RankRule<R>,
+    waiting: &mut Waiting,
     out: &mut O,
 ) -> Turn
     requires world { IsWorld world }
@@ -129,65 +120,70 @@ fn play_event<O: Sink, R: Fn(RankFacts) -> u64>(
     requires room { world.events ≤ events_limit }
     requires rank { IsRankRule (R.pre rank.now) }
     ensures turns { (header : Header) (past : History) → Stands world header past → IsPlayed (R.post rank.now) header past →
-        Turns (R.post rank.now) header past event (O.written out.old) (O.written out.new) result }
-    ensures finish { (finish : Finish) → result ≡ Turn.Finished finish →
-        (finish_at line world.events event ≡ Some finish) × (O.written out.new ≡ O.written out.old) }
+        Turns (R.post rank.now) header past event (O.written out.old) (O.written out.new) waiting.old waiting.new result }
+    ensures finish { finish_at line world.events event ≡ finish_of_turn result }
     ensures done { (next : WorldState) → result ≡ Turn.Done next →
-        (finish_at line world.events event ≡ None) × (next.header ≡ world.header) × (next.events ≡ world.events + 1) × (next.events ≤ events_limit) }
+        (next.header ≡ world.header) × (next.events ≡ world.events + 1) × (next.events ≤ events_limit) }
     ensures world { (next : WorldState) → result ≡ Turn.Done next → IsWorld next }
-    ensures too_large { result ≡ Turn.TooLarge → finish_at line world.events event ≡ None }
-    ensures begun { result ≡ Turn.WriteFault → finish_at line world.events event ≡ None }
     ensures fault { result ≡ Turn.WriteFault → Rose (O.faults out.old) (O.faults out.new) }
     ensures later { O.faults out.old ≤ O.faults out.new }
 {
     match finish_at(line, world.events(), &event) {
         Some(finish) => Turn::Finished(finish),
-        None => take_turn(alloc, world, &event, rank, out),
+        None => take_turn(alloc, world, &event, rank, waiting, out),
     }
 }
 
-/// How the text ends of which the reader gave all that it was fed.
-fn ending_of(reader: &Reader) -> Ending
-    requires { IsDrained reader.now }
-    ensures { result ≡ (gives reader.now []).ending }
-{
-    match reader.finish() {
-        Some(stop) => Ending::Stopped(stop),
-        None => Ending::Ended,
-    }
-}
-
-/// The next event of a text, or how the text ends.
-fn next_event(reader: &mut Reader) -> Result<Result<Event, Ending>, Memory>
-    requires { (header : Header) × IsAtEvents reader.old header }
-    ensures { IfOk result (λ next. GoesOn next reader.old reader.new) }
-{
-    match reader.next() {
-        Err(Stop::Memory) => Err(Memory),
-        Err(stop) => Ok(Err(Ending::Stopped(stop))),
-        Ok(None) => Ok(Err(ending_of(reader))),
-        Ok(Some(Item::End)) => Ok(Err(Ending::Ended)),
-        Ok(Some(Item::Header(_))) => unreachable!(),
-        Ok(Some(Item::Event(event))) => Ok(Ok(event)),
-    }
-}
-
-/// Plays the events that the reader still gives.
-fn play_events<O: Sink, R: Fn(RankFacts) -> u64>(
+/// Reads the header of the text on the input, and makes its world.
+fn begin<I: Source, O: Sink>(
     alloc: Global,
-    reader: &mut Reader,
-    world: World,
+    intake: &mut Intake,
+    input: &mut I,
+    waiting: &mut Waiting,
+    out: &mut O,
+) -> Result<World, Played>
+    requires fresh { IsFresh intake.old }
+    requires nothing { waiting.old ≡ [] }
+    ensures begun { IfOk result (λ world. SoFar (I.left input.old) (I.left input.new) (O.written out.old) (O.written out.new) intake.new
+        waiting.new world.header []) }
+    ensures world { IfOk result (λ world. IsWorld world × Stands world world.header [] × (is_built_header world.header ≡ true)) }
+    ensures ran { IfErr result (λ end. (taken : List ℕ)
+        × Ran (I.left input.old) (I.left input.new) (O.written out.old) (O.written out.new) waiting.new taken [] end
+        × EndsAtOnce (played (read false taken)) (finish_of end)) }
+    ensures tells { Tells (I.ends input.old) (I.ends input.new) (I.faults input.old) (I.faults input.new) (filled_at_begin result) }
+    ensures fault { IfErr result (λ end. end ≡ Played.WriteFault → Rose (O.faults out.old) (O.faults out.new)) }
+    ensures later { O.faults out.old ≤ O.faults out.new }
+{
+    let header = match intake.next(input, waiting, out) {
+        Err(Failed) => return Err(Played::WriteFault),
+        Ok(Given::Memory) => return Err(Played::Memory),
+        Ok(Given::Ended(ending, filled)) => {
+            return Err(Played::Ended(0, Finish::Text(ending), filled));
+        }
+        Ok(Given::Event(_)) => unreachable!(),
+        Ok(Given::Header(header)) => header,
+    };
+    if !is_built_header(&header) {
+        return Err(Played::Ended(0, Finish::Unbuilt(intake.line()), Filled::Open));
+    }
+    match World::new(alloc, header) {
+        Ok(world) => Ok(world),
+        Err(Memory) => Err(Played::Memory),
+    }
+}
+
+/// Plays the text on the input; of its lines some wait.
+fn play_text<I: Source, O: Sink, R: Fn(RankFacts) -> u64>(
+    alloc: Global,
+    input: &mut I,
     rank: &RankRule<R>,
+    waiting: &mut Waiting,
     out: &mut O,
 ) -> Played
-    requires place { IsAtEvents reader.old world.header }
-    requires stands { Stands world world.header [] }
-    requires world { IsWorld world }
-    requires events { world.events ≡ 0 }
+    requires nothing { waiting.old ≡ [] }
     requires rank { IsRankRule (R.pre rank.now) }
-    ensures plays { PlaysEvents (R.post rank.now) world.header
-        (events_played (reader.old.lines + 1) 0 (gives reader.old []).events (gives reader.old []).ending)
-        (O.written out.old) (O.written out.new) result }
+    ensures plays { Plays (R.post rank.now) (I.left input.old) (I.left input.new) (O.written out.old) (O.written out.new) waiting.new result }
+    ensures tells { Tells (I.ends input.old) (I.ends input.new) (I.faults input.old) (I.faults input.new) (filled_of result) }
     ensures fault { result ≡ Played.WriteFault → Rose (O.faults out.old) (O.faults out.new) }
     ensures later { O.faults out.old ≤ O.faults out.new }
 {
@@ -195,64 +191,51 @@ fn play_events<O: Sink, R: Fn(RankFacts) -> u64>(
     reads_are_held();
     opens_are_newest();
     standing_worlds_are_shown();
-    let mut world = world;
+    let mut intake = Intake::new(alloc);
+    let mut world = match begin(alloc, &mut intake, input, waiting, out) {
+        Ok(world) => world,
+        Err(played) => return played,
+    };
     'events: loop {
-        let Ok(next) = next_event(reader) else {
-            return Played::Memory;
-        };
         let count = world.events();
-        match next {
-            Err(ending) => return Played::Ended(count, Finish::Text(ending)),
-            Ok(event) => match play_event(alloc, reader.line(), world, event, rank, out) {
-                Turn::Done(after) => world = after,
-                Turn::Finished(finish) => return Played::Ended(count, finish),
-                Turn::TooLarge => return Played::Ended(count, Finish::Objects),
-                Turn::WriteFault => return Played::WriteFault,
-                Turn::Memory => return Played::Memory,
-            },
+        let event = match intake.next(input, waiting, out) {
+            Err(Failed) => return Played::WriteFault,
+            Ok(Given::Memory) => return Played::Memory,
+            Ok(Given::Ended(ending, filled)) => {
+                return Played::Ended(count, Finish::Text(ending), filled);
+            }
+            Ok(Given::Header(_)) => unreachable!(),
+            Ok(Given::Event(event)) => event,
+        };
+        match play_event(alloc, intake.line(), world, event, rank, waiting, out) {
+            Turn::Done(after) => world = after,
+            Turn::Finished(finish) => return Played::Ended(count, finish, Filled::Open),
+            Turn::TooLarge => return Played::Ended(count, Finish::Objects, Filled::Open),
+            Turn::WriteFault => return Played::WriteFault,
+            Turn::Memory => return Played::Memory,
         }
     }
 }
 
-/// The header of a text, or how the text ends without one.
-fn first_header(reader: &mut Reader) -> Result<Result<Header, Ending>, Memory>
-    requires { (header : Header) → ¬ IsAtEvents reader.old header }
-    ensures { IfOk result (λ first. Begins first reader.old reader.new) }
-{
-    match reader.next() {
-        Err(Stop::Memory) => Err(Memory),
-        Err(stop) => Ok(Err(Ending::Stopped(stop))),
-        Ok(None) => Ok(Err(ending_of(reader))),
-        Ok(Some(Item::End | Item::Event(_))) => unreachable!(),
-        Ok(Some(Item::Header(header))) => Ok(Ok(header)),
-    }
-}
-
-/// Plays a schedule from its header on.
-pub fn play<O: Sink, R: Fn(RankFacts) -> u64>(
+/// Plays a schedule from its header on, and writes its lines.
+pub fn play<I: Source, O: Sink, R: Fn(RankFacts) -> u64>(
     alloc: Global,
-    reader: &mut Reader,
+    input: &mut I,
     rank: &RankRule<R>,
     out: &mut O,
 ) -> Played
-    requires place { (header : Header) → ¬ IsAtEvents reader.old header }
     requires rank { IsRankRule (R.pre rank.now) }
-    ensures plays { Plays (R.post rank.now) (played (gives reader.old [])) (O.written out.old) (O.written out.new) result }
+    ensures plays { Plays (R.post rank.now) (I.left input.old) (I.left input.new) (O.written out.old) (O.written out.new) [] result }
+    ensures tells { Tells (I.ends input.old) (I.ends input.new) (I.faults input.old) (I.faults input.new) (filled_of result) }
     ensures fault { result ≡ Played.WriteFault → Rose (O.faults out.old) (O.faults out.new) }
     ensures later { O.faults out.old ≤ O.faults out.new }
 {
-    let Ok(first) = first_header(reader) else {
-        return Played::Memory;
-    };
-    let header = match first {
-        Ok(header) => header,
-        Err(ending) => return Played::Ended(0, Finish::Text(ending)),
-    };
-    if !is_built_header(&header) {
-        return Played::Ended(0, Finish::Unbuilt(reader.line()));
-    }
-    match World::new(alloc, header) {
-        Ok(world) => play_events(alloc, reader, world, rank, out),
-        Err(Memory) => Played::Memory,
+    let mut waiting = Waiting::new(alloc);
+    match play_text(alloc, input, rank, &mut waiting, out) {
+        Played::WriteFault => Played::WriteFault,
+        played => match waiting.flush(out) {
+            Ok(()) => played,
+            Err(Failed) => Played::WriteFault,
+        },
     }
 }

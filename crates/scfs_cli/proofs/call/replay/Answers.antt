@@ -1,45 +1,22 @@
-use Rattle.std.proofs.Common.{refl, false}
-use Rattle.scfs_schedule.specs.Reading.{read}
-use Rattle.scfs_cli.specs.declared.closing.Filled.TheVariants as filleds
-use Rattle.scfs_cli.specs.Playing.{played}
-use Rattle.scfs_cli.proofs.CallLemmas.{fed_whole, other_filled}
-use Rattle.scfs_cli.proofs.HistoryLemmas.{memory_text, plays_nothing}
+use Rattle.scfs_cli.specs.declared.play.Played.TheVariants as playeds
+use Rattle.scfs_cli.proofs.EdgeLemmas.{puts_nothing}
+use Rattle.scfs_cli.proofs.ReplayLemmas.{replays_closed, replays_fault, replays_short}
 use Rattle.scfs_cli.proofs.call.replay.Goals as goal
+
+pub returns-in-WriteFault-clause-replays : goal.returns-in-WriteFault-clause-replays
+returns-in-WriteFault-clause-replays g c = replays_fault _ _ _ _ _ _ _ _ _ c.in-WriteFault.ensures.plays c.in-WriteFault.ensures.tells
 
 pub returns-in-Memory-clause-replays : goal.returns-in-Memory-clause-replays
 returns-in-Memory-clause-replays g c =
-    let before = g.O.Sink.written c.args.out.now in
-    let fills = c.in-Memory.ensures.fills in
-    let whole = played (read false fills.taken) in
-    record {
-      filled = filleds.Memory;
-      replays = record {
-        taken = fills.taken;
-        takes = fills.takes;
-        few = fills.few;
-        full = λ is. cc;
-        nothing_left = λ is. cc;
-        replays = memory_text _ fills.taken filleds.Memory whole before before refl (plays_nothing _ whole before);
-      };
-      ended = λ is. cc;
-      failed = λ is. cc;
-    }
+    replays_short _ _ _ _ _ _ _ _ _ playeds.Memory c.in-Memory.ensures.plays (λ same. cc) c.in-Memory.ensures.tells _ (puts_nothing (g.O.Sink.written c.play.new.out))
 
-pub returns-clause-replays : goal.returns-clause-replays
-returns-clause-replays g c =
-    let fills = c.fill-filled.ensures.fills in
-    let feeds = fills.feeds (other_filled c.fill-filled.result c.in-End.is) in
-    let same = fed_whole c.new-reader.result c.fill-filled.new.reader fills.taken c.new-reader.ensures feeds in
-    record {
-      filled = c.fill-filled.result;
-      replays = record {
-        taken = fills.taken;
-        takes = fills.takes;
-        few = fills.few;
-        full = fills.full;
-        nothing_left = fills.nothing_left;
-        replays = c.finish.ensures.replays fills.taken same;
-      };
-      ended = c.fill-filled.ensures.ended;
-      failed = c.fill-filled.ensures.fault;
-    }
+pub returns-in-None-clause-replays : goal.returns-in-None-clause-replays
+returns-in-None-clause-replays g c =
+    let on = c.in-Ended.ensures in
+    replays_short _ _ _ _ _ _ _ _ _ (playeds.Ended c.in-Ended.events c.in-Ended.finish c.in-Ended.filled) on.plays (λ same. cc) on.tells _
+    (puts_nothing (g.O.Sink.written c.play.new.out))
+
+pub returns-in-Some-clause-replays : goal.returns-in-Some-clause-replays
+returns-in-Some-clause-replays g c =
+    let on = c.in-Ended.ensures in
+    replays_closed _ _ _ _ _ _ _ _ _ c.in-Ended.events c.in-Ended.finish c.in-Ended.filled on.plays on.tells _ c.in-Some.last c.in-Some.ensures c.close.result c.close.ensures.closes
