@@ -233,7 +233,7 @@ fn wrong_headers(rt: HostRuntime) -> Result<(), Fail> {
 }
 
 /// This line a number of times.
-fn repeated(alloc: Global, line: &str, times: u32) -> Result<String, Fail> {
+pub fn repeated(alloc: Global, line: &str, times: u32) -> Result<String, Fail> {
     let mut text = String::new(alloc);
     for _ in 0..times {
         text.push_str(line)?;

@@ -1,5 +1,6 @@
 use crate::call::scfs;
 use crate::closing::Status;
+use crate::malformed::repeated;
 use scfs_base::{Bytes, MemSink, MemSource};
 use scfs_policy::{RankFacts, RankRule};
 use std::alloc::Global;
@@ -197,10 +198,54 @@ fn a_failing_write_ends_the_run(rt: HostRuntime) -> Result<(), Fail> {
     for (before, text) in written.iter().enumerate() {
         let run = Run {
             input: &[HEADER, EVENTS, "end\n"],
+            piece: Some(1),
             failing_write: Some(before as u64 + 1),
             ..REPLAY
         };
         expect(&rt, run, Status::WriteFault, &[text])?;
+    }
+    Ok(())
+}
+
+/// Before each read all lines are written that wait, and the last line is written alone.
+#[test]
+fn lines_are_written_together_before_a_read(rt: HostRuntime) -> Result<(), Fail> {
+    for (piece, writes) in [(None, 2), (Some(64), 2), (Some(10), 3), (Some(1), 5)] {
+        let run = Run {
+            input: &[HEADER, EVENTS, "end\n"],
+            piece,
+            failing_write: Some(writes),
+            ..REPLAY
+        };
+        expect(&rt, run, Status::WriteFault, &[TRANSCRIPT])?;
+        let one_more = Run {
+            failing_write: Some(writes + 1),
+            ..run
+        };
+        expect(&rt, one_more, Status::Done, &[TRANSCRIPT, "stop 0 6\n"])?;
+    }
+    Ok(())
+}
+
+/// Lines are written once they are 65,536 bytes: 6,665 lines are the first that are so long. The first 65,536 bytes of the input
+/// end in the 9,346th event's line.
+#[test]
+fn lines_wait_for_a_piece_at_most(rt: HostRuntime) -> Result<(), Fail> {
+    let events = repeated(rt.alloc(), "told 0\n", 10_000)?;
+    for (failing, status, last) in [
+        (2, Status::WriteFault, "\n6665 skip\n"),
+        (3, Status::WriteFault, "\n9345 skip\n"),
+        (4, Status::WriteFault, "\n10000 skip\n"),
+        (5, Status::Done, "\n10000 skip\nstop 0 10000\n"),
+    ] {
+        let run = Run {
+            input: &[HEADER, events.as_str(), "end\n"],
+            failing_write: Some(failing),
+            ..REPLAY
+        };
+        let (came, text) = outcome(rt.alloc(), run)?;
+        assert!(&rt; text.as_str().ends_with(last));
+        assert_eq!(&rt; came, status);
     }
     Ok(())
 }
