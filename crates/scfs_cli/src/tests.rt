@@ -232,6 +232,7 @@ fn lines_are_written_together_before_a_read(rt: HostRuntime) -> Result<(), Fail>
 #[test]
 fn lines_wait_for_a_piece_at_most(rt: HostRuntime) -> Result<(), Fail> {
     let events = repeated(rt.alloc(), "told 0\n", 10_000)?;
+    let text = format!(in rt.alloc(); "{HEADER}{events}end\n")?;
     for (failing, status, last) in [
         (2, Status::WriteFault, "\n6665 skip\n"),
         (3, Status::WriteFault, "\n9345 skip\n"),
@@ -239,12 +240,13 @@ fn lines_wait_for_a_piece_at_most(rt: HostRuntime) -> Result<(), Fail> {
         (5, Status::Done, "\n10000 skip\nstop 0 10000\n"),
     ] {
         let run = Run {
-            input: &[HEADER, events.as_str(), "end\n"],
+            words: &["replay"],
+            input: &[text.as_str()],
             failing_write: Some(failing),
             ..REPLAY
         };
-        let (came, text) = outcome(rt.alloc(), run)?;
-        assert!(&rt; text.as_str().ends_with(last));
+        let (came, written) = outcome(rt.alloc(), run)?;
+        assert!(&rt; written.as_str().ends_with(last));
         assert_eq!(&rt; came, status);
     }
     Ok(())
