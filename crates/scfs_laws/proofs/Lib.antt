@@ -32,9 +32,8 @@ pub mod HeldTold
 pub mod HeldWork
 pub mod HeldStays
 pub mod HeldVersions
-pub mod HeldMixed
+pub mod HeldStands
 pub mod HeldSpace
-pub mod HeldKeeping
 pub mod HeldPlaces
 pub mod HeldReads
 mod HeldPlayed

@@ -57,10 +57,10 @@ module _ {V : Type 0} (s : Setup) (vs : Versions V) (state : State V) (given : G
   of_place ways message p =
       of_event s vs state given message Q p
       (record {
-        nothing = ways.nothing;
+        nothing = λ shown idle bare. ways.nothing shown idle;
         later = ways.later;
         gone = ways.gone;
-        missed = ways.missed;
+        missed = λ a seat oldest rest found is away. ways.missed a seat oldest rest found is;
         own = λ a seat x found place up. own_way ways a seat x found;
         hears = λ c request answer seat found place is up.
             ways.come request.agent seat (lines.Gave c request (sum_of s answer) ∷ []) (Hears c request answer) found (tt, tt) tt;

@@ -242,7 +242,7 @@ module _ {V : Type 0} (s : Setup) (vs : Versions V) (keeps : CompletionKeeps vs)
     next_state =
         of_event s vs state given e.message (IsFine s vs past e state given h) (place_of e.event)
         (record {
-          nothing = λ shown idle same. still s vs past e state given h
+          nothing = λ shown idle bare same. still s vs past e state given h
               (subst (Each IsOfAgent) (sym same) (each-map IsIdle IsOfAgent idle_of_agent shown idle))
               (subst (Each IsDull) (sym same) (each-map IsIdle IsDull idle_dull shown idle));
           later = λ ticks same.
@@ -250,7 +250,7 @@ module _ {V : Type 0} (s : Setup) (vs : Versions V) (keeps : CompletionKeeps vs)
               (record { tree = k.0.tree; seats = k.0.seats }, k.1);
           gone = λ a seat request found same. set s vs past e state given h (subst (Each IsOfAgent) (sym same) (tt, tt))
               (subst (Each IsDull) (sym same) (tt, tt)) a seat seat found (h.seats a seat found);
-          missed = λ a seat oldest rest found is same.
+          missed = λ a seat oldest rest found is away same.
               let g = fewer s vs past e state given h a seat oldest rest found is in
               set s vs past e state given h (subst (Each IsOfAgent) (sym same) (tt, tt)) (subst (Each IsDull) (sym same) (tt, tt)) a seat _ found
               (record { waiting = g.waiting; replied = g.replied.1 });

@@ -68,10 +68,10 @@ module _ (s : Setup) (Among : (c : ℕ) → (bytes : List ℕ) → Type 0) where
     versions_keep =
         of_event s (closes s) state given m (λ x. Each (IsVersion s Among) x.state.tree.versions) place
         (record {
-          nothing = λ shown idle. is.0;
+          nothing = λ shown idle bare. is.0;
           later = λ ticks. is.0;
           gone = λ a seat request found. is.0;
-          missed = λ a seat oldest rest found e. is.0;
+          missed = λ a seat oldest rest found e away. is.0;
           own = λ a seat x found at up. is.0;
           hears = λ c request answer seat found at about there. is.0;
           told = λ a seat oldest rest found e there. is.0;
