@@ -93,10 +93,7 @@ module _ (s : Setup) (a : ℕ) (versions : List Version_seen) (y : Agent_seen) (
       let none = all_idle s a versions (latest y) (latest y) None (Some For_step) [] [] asked replied (λ e. e) (λ e. e) is.steps in
       let few = busy_once step in
       asks_does s event a versions y asked replied (at agent (Some For_step) []) step (record {
-        sessions = is.sessions;
-        incarnation = is.incarnation;
-        ahead = is.ahead;
-        upload = is.upload;
+        based = is.based;
         waits = tt;
         steps = any_change s a versions (latest y) (latest y) None (Some For_step) [] [] asked replied none is.steps;
       }) (omega (arith, none, few)) fits
@@ -106,10 +103,7 @@ module _ (s : Setup) (a : ℕ) (versions : List Version_seen) (y : Agent_seen) (
   opens_does event agent step is fits =
       either_does s event a versions y asked replied (nat_lt (length agent.sessions + 0) handles_limit) _ _
       (calls_does event (record agent { opens = agent.opens + 1 }) (On_sessions (step (agent.opens + 1))) (record {
-        sessions = is.sessions;
-        incarnation = is.incarnation;
-        ahead = is.ahead;
-        upload = is.upload;
+        based = is.based;
         waits = is.waits;
         steps = is.steps;
       }) fits)
@@ -121,14 +115,16 @@ module _ (s : Setup) (a : ℕ) (versions : List Version_seen) (y : Agent_seen) (
       → Seated s versions a (with_bytes h (edited (events.Call a call) (y.bytes h)) y)
       (seat_of (with_session (at agent None []) h next) (asked ++ []) replied)
   changing_does call agent h end change next is made same = record {
-    sessions = held_set y.bytes (set_at y.bytes h (edited (events.Call a call) (y.bytes h))) agent.sessions h next
-        (changes_at y.bytes h (edited (events.Call a call) (y.bytes h)) next.contents
-        (same ∙ changed_of y.bytes h end change (session_of agent.sessions h) next
-        (λ x there. held_found y.bytes agent.sessions h x there is.sessions) made))
-        is.sessions;
-    incarnation = is.incarnation;
-    ahead = is.ahead;
-    upload = is.upload;
+    based = record {
+      held = held_set y.bytes (set_at y.bytes h (edited (events.Call a call) (y.bytes h))) agent.sessions h next
+          (changes_at y.bytes h (edited (events.Call a call) (y.bytes h)) next.contents
+          (same ∙ changed_of y.bytes h end change (session_of agent.sessions h) next
+          (λ x there. held_found y.bytes agent.sessions h x there is.based.held) made))
+          is.based.held;
+      same = is.based.same;
+      ahead = is.based.ahead;
+      upload = is.based.upload;
+    };
     waits = is.waits;
     steps = none_asked s a versions (latest y) None [] asked replied is.steps;
   }
@@ -137,10 +133,12 @@ module _ (s : Setup) (a : ℕ) (versions : List Version_seen) (y : Agent_seen) (
       → Doing event (saying (record agent { waiting = None; closed = []; sessions = ended agent.sessions h }) (says.Ended h))
   ended_does event agent h is = record {
     seated = record {
-      sessions = held_ended y.bytes agent.sessions h is.sessions;
-      incarnation = is.incarnation;
-      ahead = is.ahead;
-      upload = is.upload;
+      based = record {
+        held = held_ended y.bytes agent.sessions h is.based.held;
+        same = is.based.same;
+        ahead = is.based.ahead;
+        upload = is.based.upload;
+      };
       waits = is.waits;
       steps = none_asked s a versions (latest y) None [] asked replied is.steps;
     };
@@ -155,7 +153,7 @@ module _ (s : Setup) (a : ℕ) (versions : List Version_seen) (y : Agent_seen) (
       unless_does s (events.Call a (calls.Create path)) a versions y asked replied (at agent None []) (path_names s path) _ is (λ names made.
       calls_does (events.Call a (calls.Create path)) (record agent { files = agent.files + 1 })
       (On_names (Make names (file_id a agent.incarnation (agent.files + 1))))
-      (record { sessions = is.sessions; incarnation = is.incarnation; ahead = is.ahead; upload = is.upload; waits = is.waits; steps = is.steps }) tt)
+      (record { based = is.based; waits = is.waits; steps = is.steps }) tt)
   called_does agent (calls.Stat path) is kind =
       unless_does s (events.Call a (calls.Stat path)) a versions y asked replied (at agent None []) (any_names s path) _ is (λ names made.
       calls_does (events.Call a (calls.Stat path)) agent (On_names (Look names)) is tt)
@@ -174,7 +172,7 @@ module _ (s : Setup) (a : ℕ) (versions : List Version_seen) (y : Agent_seen) (
             offset,
             count,
             refl,
-            shown_of y.bytes h offset count (session_of agent.sessions h) shown (λ x there. held_found y.bytes agent.sessions h x there is.sessions)
+            shown_of y.bytes h offset count (session_of agent.sessions h) shown (λ x there. held_found y.bytes agent.sessions h x there is.based.held)
                 made,
           ),
           tt,

@@ -46,10 +46,7 @@ module _ (s : Setup) (event : Event) (a : ℕ) (versions : List Version_seen) (y
   further : (agent : Agent Row) (x : Closed Row) (u later : Upload Row) → IsFurther s u later → Sits (uploading agent x u)
       → Sits (uploading agent x later)
   further agent x u later so is = record {
-    sessions = is.sessions;
-    incarnation = is.incarnation;
-    ahead = is.ahead;
-    upload = is.upload;
+    based = is.based;
     waits = subst (λ v. IsRow s v (latest y)) (sym so.version) is.waits;
     steps = loose_change s a versions (latest y) (latest y) (Some For_close) (Some For_close) ((record x { upload = Some u }) ∷ [])
         ((record x { upload = Some later }) ∷ []) asked replied (λ e. e) so.stored is.steps;
@@ -63,10 +60,7 @@ module _ (s : Setup) (event : Event) (a : ℕ) (versions : List Version_seen) (y
       record {
         seated = subst (λ z. Seated s versions a z (seat_of (record agent { requests = agent.requests + length made }) (asked ++ []) replied))
             (sym (after_puts name body made y)) (record {
-              sessions = is.sessions;
-              incarnation = is.incarnation;
-              ahead = is.ahead;
-              upload = is.upload;
+              based = is.based;
               waits = is.waits;
               steps = none_asked s a versions (latest y) agent.waiting agent.closed asked replied is.steps;
             });
@@ -119,10 +113,7 @@ module _ (s : Setup) (event : Event) (a : ℕ) (versions : List Version_seen) (y
   falls_short_does agent x u later acks short is =
       let none = none_commits agent x u short is in
       let given_back = asks_does s event a versions y asked replied (at (unleased agent x.number) None []) (On_locks (Unlock x.session.file x.number)) (record {
-        sessions = is.sessions;
-        incarnation = is.incarnation;
-        ahead = is.ahead;
-        upload = is.upload;
+        based = is.based;
         waits = tt;
         steps = any_change s a versions (latest y) (latest y) (Some For_close) None ((record x { upload = Some u }) ∷ []) [] asked replied none is.steps;
       }) (omega (arith, none)) tt in

@@ -80,8 +80,8 @@ module _ (s : Setup) (event : Event) (a : ℕ) (versions : List Version_seen) (y
       let i : ℕ = y.incarnation in
       let close : Close_seen = record { upload = upload_no a i ((latest y).upload.count + 1); bytes = y.bytes h } in
       let same : latest (with_close a h y) ≡ close = ap (λ b. cond b close (latest y)) (eq-eqb i i refl) in
-      let counted = ap (λ (u : UploadNo). upload_no a i (u.count + 1)) (sym is.upload) in
-      let named = ap (λ n. upload_no a n (agent.uploads + 1)) (sym is.incarnation) ∙ counted in
+      let counted = ap (λ (u : UploadNo). upload_no a i (u.count + 1)) (sym is.based.upload) in
+      let named = ap (λ n. upload_no a n (agent.uploads + 1)) (sym is.based.same) ∙ counted in
       let none = all_idle s a versions (latest y) close None (Some For_close) [] [] asked replied (λ e. e) (λ e. e) is.steps in
       let puts = next_asked a (record agent { uploads = agent.uploads + 1 }) (below (clouds_of s)) in
       let u : Upload Row = record {
@@ -94,13 +94,15 @@ module _ (s : Setup) (event : Event) (a : ℕ) (versions : List Version_seen) (y
       (below (clouds_of s))
       (upload_name number) (object_at unit)
       (record {
-        sessions = held_ended y.bytes agent.sessions h is.sessions;
-        incarnation = is.incarnation;
-        ahead = λ j above.
-            ap (λ b. cond b close (y.close j)) (eqb-apart j i (λ e. omega (arith, e, above))) ∙ is.ahead j above;
-        upload = ap (λ (c : Close_seen). c.upload) same ∙ sym counted;
+        based = record {
+          held = held_ended y.bytes agent.sessions h is.based.held;
+          same = is.based.same;
+          ahead = λ j above.
+              ap (λ b. cond b close (y.close j)) (eqb-apart j i (λ e. omega (arith, e, above))) ∙ is.based.ahead j above;
+          upload = ap (λ (c : Close_seen). c.upload) same ∙ sym counted;
+        };
         waits = subst (λ c. IsRow s u.version c) (sym same)
-            (row_is s z number close.upload (y.bytes h) named (held_found y.bytes agent.sessions h z there is.sessions));
+            (row_is s z number close.upload (y.bytes h) named (held_found y.bytes agent.sessions h z there is.based.held));
         steps = subst (λ c. Between s a versions c (Some For_close) (x ∷ []) asked replied) (sym same)
             (any_change s a versions (latest y) close None (Some For_close) [] (x ∷ []) asked replied none is.steps);
       })

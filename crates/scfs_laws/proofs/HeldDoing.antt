@@ -42,10 +42,7 @@ module _ (s : Setup) (event : Event) (a : ℕ) (versions : List Version_seen) (y
 
   pub says_none : (agent : Agent Row) → Sits agent → Seated s versions a y (seat_of agent (asked ++ []) replied)
   says_none agent is = record {
-    sessions = is.sessions;
-    incarnation = is.incarnation;
-    ahead = is.ahead;
-    upload = is.upload;
+    based = is.based;
     waits = is.waits;
     steps = none_asked s a versions (latest y) agent.waiting agent.closed asked replied is.steps;
   }
@@ -53,7 +50,7 @@ module _ (s : Setup) (event : Event) (a : ℕ) (versions : List Version_seen) (y
   -- an agent with another life and other leases
   pub otherwise : (agent : Agent Row) (life : Life) (leases : List Lease) → Sits agent → Sits (record agent { life = life; leases = leases })
   otherwise agent life leases is =
-      record { sessions = is.sessions; incarnation = is.incarnation; ahead = is.ahead; upload = is.upload; waits = is.waits; steps = is.steps }
+      record { based = is.based; waits = is.waits; steps = is.steps }
 
   pub silent_does : (agent : Agent Row) → Sits agent → Doing (silent agent)
   silent_does agent is = record { seated = says_none agent is; says = tt; sent = tt }
@@ -68,10 +65,7 @@ module _ (s : Setup) (event : Event) (a : ℕ) (versions : List Version_seen) (y
       → Doing (asks_step a agent step)
   asks_does agent step is few fits = record {
     seated = record {
-      sessions = is.sessions;
-      incarnation = is.incarnation;
-      ahead = is.ahead;
-      upload = is.upload;
+      based = is.based;
       waits = is.waits;
       steps = one_asked s a versions (latest y) agent.waiting agent.closed asked replied (next_request a agent step) few (refl, fits) is.steps;
     };

@@ -61,11 +61,13 @@ module _ (s : Setup) (event : Event) (a : ℕ) (versions : List Version_seen) (a
       → bytes_opened s y.reading source ≡ z.contents → Doing y (opened (at agent waiting []) h z source)
   opened_does y agent waiting h z source is none same = record {
     seated = record {
-      sessions = held_opened y.bytes (set_at y.bytes h (bytes_opened s y.reading source)) agent.sessions h z
-          (changes_at y.bytes h (bytes_opened s y.reading source) z.contents same) is.sessions;
-      incarnation = is.incarnation;
-      ahead = is.ahead;
-      upload = is.upload;
+      based = record {
+        held = held_opened y.bytes (set_at y.bytes h (bytes_opened s y.reading source)) agent.sessions h z
+            (changes_at y.bytes h (bytes_opened s y.reading source) z.contents same) is.based.held;
+        same = is.based.same;
+        ahead = is.based.ahead;
+        upload = is.based.upload;
+      };
       waits = tt;
       steps = none_asked s a versions (latest y) None [] asked replied
           (any_change s a versions (latest y) (latest y) waiting None [] [] asked replied none is.steps);
@@ -85,10 +87,7 @@ module _ (s : Setup) (event : Event) (a : ℕ) (versions : List Version_seen) (a
         seated = subst (λ z. Seated s versions a z
             (seat_of (record (at agent (Some (For_clouds next)) []) { requests = agent.requests + length gets }) (asked ++ []) replied))
             (sym (after_gets o.reading.name (s.format.object_size s.header.f o.reading.size + 1) gets y)) (record {
-              sessions = is.sessions;
-              incarnation = is.incarnation;
-              ahead = is.ahead;
-              upload = is.upload;
+              based = is.based;
               waits = (ap (λ (r : Reading). record r { gets = r.gets ++ gets }) is.waits.0, tt);
               steps = none_asked s a versions (latest y) (Some (For_clouds next)) [] asked replied
                   (loose_change s a versions (latest y) (latest y) (Some (For_clouds o)) (Some (For_clouds next)) [] [] asked replied (λ e. e)
@@ -128,20 +127,14 @@ module _ (s : Setup) (event : Event) (a : ℕ) (versions : List Version_seen) (a
   reads_does y agent o (Has bytes) is read =
       let none = all_idle s a versions (latest y) (latest y) (Some (For_clouds o)) None [] [] asked replied (λ e. e) (λ e. e) is.steps in
       opened_does y agent None o.session (session_on rows o.version o.writes bytes) sources.Clouds (record {
-        sessions = is.sessions;
-        incarnation = is.incarnation;
-        ahead = is.ahead;
-        upload = is.upload;
+        based = is.based;
         waits = tt;
         steps = any_change s a versions (latest y) (latest y) (Some (For_clouds o)) None [] [] asked replied none is.steps;
       }) none read
   reads_does y agent o (Gives_up good) is read =
       let none = all_idle s a versions (latest y) (latest y) (Some (For_clouds o)) None [] [] asked replied (λ e. e) (λ e. e) is.steps in
       gives_up_does y agent o good (record {
-        sessions = is.sessions;
-        incarnation = is.incarnation;
-        ahead = is.ahead;
-        upload = is.upload;
+        based = is.based;
         waits = tt;
         steps = any_change s a versions (latest y) (latest y) (Some (For_clouds o)) None [] [] asked replied none is.steps;
       }) none
@@ -151,10 +144,7 @@ module _ (s : Setup) (event : Event) (a : ℕ) (versions : List Version_seen) (a
       → Sits y (at agent (Some (For_clouds o)) [])
       → Sits (record y { reading = reading }) (at agent (Some (For_clouds (record o { reading = r }))) [])
   other_reading y agent o r reading same is = record {
-    sessions = is.sessions;
-    incarnation = is.incarnation;
-    ahead = is.ahead;
-    upload = is.upload;
+    based = is.based;
     waits = (same, tt);
     steps = loose_change s a versions (latest y) (latest y) (Some (For_clouds o)) (Some (For_clouds (record o { reading = r }))) [] [] asked replied
         (λ e. e) (λ e. e) is.steps;
@@ -180,7 +170,7 @@ module _ (s : Setup) (event : Event) (a : ℕ) (versions : List Version_seen) (a
       let next = other_reading y agent o (with_piece o.reading piece) reading same is in
       reads_does (record y { reading = reading }) (tallied agent c (is_some piece)) (record o { reading = with_piece o.reading piece })
       (read_on s o.reading piece)
-      (record { sessions = next.sessions; incarnation = next.incarnation; ahead = next.ahead; upload = next.upload; waits = next.waits; steps = next.steps })
+      (record { based = next.based; waits = next.waits; steps = next.steps })
       (taken_is_read (record y { reading = reading }) o.reading piece same)
   heard_within y agent o c piece reading false is same =
       reads_does (record y { reading = reading }) agent o Goes_on (other_reading y agent o o.reading reading same is) tt
@@ -222,10 +212,7 @@ module _ (s : Setup) (event : Event) (a : ℕ) (versions : List Version_seen) (a
       let order = order_by given.ranks in
       let o : Opening Row = record { session = h; writes = writes; version = v; reading = record (row_reading v) { order = order } } in
       let does = gets_does y agent (Some For_step) o (take (s.header.f + 1) order) (record {
-        sessions = is.sessions;
-        incarnation = is.incarnation;
-        ahead = is.ahead;
-        upload = is.upload;
+        based = is.based;
         waits = (same, tt);
         steps = any_change s a versions (latest y) (latest y) (Some For_step) (Some (For_clouds o)) [] [] asked replied none is.steps;
       }) in
@@ -246,6 +233,6 @@ module _ (s : Setup) (event : Event) (a : ℕ) (versions : List Version_seen) (a
   saw_does y agent given request h writes sight is none seen own =
       let next = with_reading (λ r. reading_of s versions sight.file sight.number) y in
       let rest = found_does next agent given h writes sight (found sight)
-      (record { sessions = is.sessions; incarnation = is.incarnation; ahead = is.ahead; upload = is.upload; waits = tt; steps = is.steps }) none
+      (record { based = is.based; waits = tt; steps = is.steps }) none
       (found_is next (sight.number == 0) sight.file sight.number sight.version seen refl) in
       record { seated = rest.seated; says = (own, rest.says); sent = rest.sent }

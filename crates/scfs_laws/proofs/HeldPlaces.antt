@@ -154,4 +154,4 @@ module _ (s : Setup) (message : Option Message) (x : Seen) (state : State Row) (
       -- a close is one of its incarnation
       other : (i : ℕ) → (seat.agent.incarnation == i) ≡ false → y.close i ≡ (with_close a h y).close i
       other i e =
-          sym (ap (λ b. cond b new (y.close i)) (eqb-comm i y.incarnation ∙ ap (λ n. eqb n i) mine.seated.incarnation ∙ e))
+          sym (ap (λ b. cond b new (y.close i)) (eqb-comm i y.incarnation ∙ ap (λ n. eqb n i) mine.seated.based.same ∙ e))

@@ -103,10 +103,7 @@ module _ (s : Setup) (message : Option Message) (x : Seen) (state : State Row) (
             (sym (filter_none (λ (q : Request Row). is_there g q.number) (seat.asked ++ []) (each-always _ (λ q. refl) (seat.asked ++ []))))
             (subst (λ replied. Seated s x.versions a y (seat_of g [] replied))
             (sym (filter_none (λ (r : Reply Row). is_there g r.number) seat.replied (each-always _ (λ r. refl) seat.replied))) (record {
-              sessions = tt;
-              incarnation = mine.seated.incarnation;
-              ahead = mine.seated.ahead;
-              upload = mine.seated.upload;
+              based = record { held = tt; same = mine.seated.based.same; ahead = mine.seated.based.ahead; upload = mine.seated.based.upload };
               waits = tt;
               steps = record { asks = tt; replies = tt; alone = omega arith };
             }));
@@ -141,10 +138,12 @@ module _ (s : Setup) (message : Option Message) (x : Seen) (state : State Row) (
       (did_keeps s event message (bytes_of x) x state x a y y seat [] r is (nothing_becomes a x) (nothing_becomes a x) refl tt (tt, tt) tt (record {
         seated = subst (λ asked. Seated s x.versions a z (seat_of g asked (replies_there g seat.replied))) (sym one)
             (subst (λ replied. Seated s x.versions a z (seat_of g (q ∷ []) replied)) (sym none) (record {
-              sessions = mine.seated.sessions;
-              incarnation = refl;
-              ahead = λ j above. mine.seated.ahead j (omega (arith, above, mine.seated.incarnation));
-              upload = ap (λ (c : Close_seen). c.upload) (mine.seated.ahead i (omega (arith, mine.seated.incarnation)));
+              based = record {
+                held = mine.seated.based.held;
+                same = refl;
+                ahead = λ j above. mine.seated.based.ahead j (omega (arith, above, mine.seated.based.same));
+                upload = ap (λ (c : Close_seen). c.upload) (mine.seated.based.ahead i (omega (arith, mine.seated.based.same)));
+              };
               waits = subst (λ w. Waits s z w g.closed) (sym d.0) (subst (λ closed. Waits s z None closed) (sym d.1) tt);
               steps = record { asks = ((refl, tt), tt); replies = tt; alone = omega arith };
             }));
@@ -291,10 +290,7 @@ first_seen s = record {
   versions = tt;
   seats = places_replicate (λ b m. Stands s [] b ((nothing_seen s).agents b) m) (length s.header.agents) (first_seat s) (λ b. record {
     seated = record {
-      sessions = tt;
-      incarnation = refl;
-      ahead = λ i less. refl;
-      upload = refl;
+      based = record { held = tt; same = refl; ahead = λ i less. refl; upload = refl };
       waits = tt;
       steps = record { asks = tt; replies = tt; alone = omega arith };
     };

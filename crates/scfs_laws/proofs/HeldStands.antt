@@ -145,7 +145,7 @@ module _ (s : Setup) (a : ℕ) (versions : List Version_seen) (y0 z : Agent_seen
       → RequestFits s a versions (latest z) r.agent.waiting r.agent.closed q → IsOne s a z r.agent q =
       λ q same k. (
         k.0,
-        fits_row s z q.number r.agent.waiting r.agent.closed q.step k.1 (seated.incarnation ∙ (stays.1 ∙ sym same)),
+        fits_row s z q.number r.agent.waiting r.agent.closed q.step k.1 (seated.based.same ∙ (stays.1 ∙ sym same)),
         omega (arith, same, stays.1),
       ) in
       record {

@@ -48,10 +48,7 @@ module _ (s : Setup) (event : Event) (a : ℕ) (versions : List Version_seen) (y
       → Sits (at agent waiting closed) → busy_asked asked + busy_replied replied ≡ 0
       → Seated s versions a y (seat_of (at agent None []) (asked ++ []) replied)
   answered_seated agent waiting closed is none = record {
-    sessions = is.sessions;
-    incarnation = is.incarnation;
-    ahead = is.ahead;
-    upload = is.upload;
+    based = is.based;
     waits = tt;
     steps = none_asked s a versions (latest y) None [] asked replied
         (any_change s a versions (latest y) (latest y) waiting None closed [] asked replied none is.steps);
@@ -197,6 +194,6 @@ tells_does s event a versions y asked oldest rest agent given is =
     let without = untold agent oldest.number in
     either_does s event a versions y asked rest (is_pending agent oldest.number) _ _
     (told_does s event a versions y asked rest without agent.waiting agent.closed given oldest.number oldest.outcome first.1 first.2 first.0
-    (record { sessions = is.sessions; incarnation = is.incarnation; ahead = is.ahead; upload = is.upload; waits = is.waits; steps = left }) (omega (arith, few)))
+    (record { based = is.based; waits = is.waits; steps = left }) (omega (arith, few)))
     (silent_does s event a versions y asked rest agent
-    (record { sessions = is.sessions; incarnation = is.incarnation; ahead = is.ahead; upload = is.upload; waits = is.waits; steps = left }))
+    (record { based = is.based; waits = is.waits; steps = left }))

@@ -93,10 +93,7 @@ module _ (s : Setup) where
 
   pub seated_more : (ws more : List Version_seen) (a : ℕ) (y : Agent_seen) (m : Seat Row) → Seated s ws a y m → Seated s (ws ++ more) a y m
   seated_more ws more a y m is = record {
-    sessions = is.sessions;
-    incarnation = is.incarnation;
-    ahead = is.ahead;
-    upload = is.upload;
+    based = is.based;
     waits = is.waits;
     steps = record {
       asks = is.steps.asks;
@@ -119,10 +116,7 @@ module _ (s : Setup) where
       let sum = replied_append replied (reply ∷ []) in
       let as_busy : busy (step_of o) ≡ busy oldest.step = ap busy same in
       record {
-        sessions = is.sessions;
-        incarnation = is.incarnation;
-        ahead = is.ahead;
-        upload = is.upload;
+        based = is.based;
         waits = is.waits;
         steps = record {
           asks = is.steps.asks.1;
@@ -140,10 +134,7 @@ module _ (s : Setup) where
       let few = is.steps.alone in
       let sum = asked_append rest (oldest ∷ []) in
       record {
-        sessions = is.sessions;
-        incarnation = is.incarnation;
-        ahead = is.ahead;
-        upload = is.upload;
+        based = is.based;
         waits = is.waits;
         steps = record {
           asks = each-append (RequestFits s a ws (latest y) agent.waiting agent.closed) rest (oldest ∷ []) is.steps.asks.1 (is.steps.asks.0, tt);

@@ -85,11 +85,11 @@ module _ (s : Setup) (event : Event) (a : ℕ) (versions : List Version_seen) (y
       → Doing (to_work (at agent waiting closed) on_open on_upload)
   work_does agent None [] works is =
       silent_does s event a versions later asked replied (at agent None [])
-      (record { sessions = is.sessions; incarnation = is.incarnation; ahead = is.ahead; upload = is.upload; waits = tt; steps = is.steps })
+      (record { based = is.based; waits = tt; steps = is.steps })
   work_does agent None (x ∷ rest) works is = absurd is.waits
   work_does agent (Some For_step) [] works is =
       silent_does s event a versions later asked replied (at agent (Some For_step) [])
-      (record { sessions = is.sessions; incarnation = is.incarnation; ahead = is.ahead; upload = is.upload; waits = tt; steps = is.steps })
+      (record { based = is.based; waits = tt; steps = is.steps })
   work_does agent (Some For_step) (x ∷ rest) works is = absurd is.waits
   work_does agent (Some (For_clouds o)) [] works is =
       let first = on_open (at agent None []) o in
@@ -100,7 +100,7 @@ module _ (s : Setup) (event : Event) (a : ℕ) (versions : List Version_seen) (y
   work_does agent (Some For_close) [] works is = absurd is.waits
   work_does agent (Some For_close) (x ∷ []) works is =
       upload_works agent x x.upload works
-      (record { sessions = is.sessions; incarnation = is.incarnation; ahead = is.ahead; upload = is.upload; waits = is.waits; steps = is.steps })
+      (record { based = is.based; waits = is.waits; steps = is.steps })
   work_does agent (Some For_close) (x ∷ z ∷ rest) works is = absurd is.waits
 
 module _ (s : Setup) (event : Event) (a : ℕ) (versions : List Version_seen) (y : Agent_seen) (asked : List (Request Row))
@@ -137,10 +137,7 @@ module _ (s : Setup) (event : Event) (a : ℕ) (versions : List Version_seen) (y
           let q : Request Row = next_request a (record agent { leases = with_renewal l.session agent.leases }) (On_locks (Renew file l.session)) in
           let few = is.steps.alone in
           let rest_does = later first.agent (asked ++ q ∷ []) (record {
-            sessions = is.sessions;
-            incarnation = is.incarnation;
-            ahead = is.ahead;
-            upload = is.upload;
+            based = is.based;
             waits = is.waits;
             steps = one_asked s a versions (latest y) agent.waiting agent.closed asked replied q (omega (arith, few)) (refl, tt) is.steps;
           }) in
