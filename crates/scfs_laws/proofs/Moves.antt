@@ -40,6 +40,7 @@ use Rattle.scfs_model.specs.Closes.{goes_on, with_storing, asks_puts, falls_shor
 use Rattle.scfs_model.specs.Calls.{any_names, path_names, with_session, unless_refused, calls_step, opens, close, called, call_of}
 use Rattle.scfs_model.specs.Told.{is_pending, untold, told_locks, told_open, told_closed, told_commit, told}
 use Rattle.scfs_model.specs.Reactions.{next_life, idle, to_open, to_closed, to_upload, to_work, crashes, responded, begun, next_begun, reacted}
+use Rattle.scfs_laws.specs.Sound.{open_of}
 use Rattle.scfs_laws.proofs.Lists.{Each, each-map, each-filter, length-put}
 
 -- what is known of what comes to an agent: of a call, of a sight that it is told, of an answer of a cloud; and where it has a turn, goes
@@ -124,12 +125,6 @@ module _ {V : Type 0} where
   abbrev pub opening : Agent V → Opening V → Agent V
   opening g o = awaiting g (Some (For_clouds o))
 
-  abbrev pub IsReading : Option (Waiting V) → Type 0
-  IsReading None = ⊥
-  IsReading (Some For_step) = ⊥
-  IsReading (Some (For_clouds o)) = Unit {0}
-  IsReading (Some For_close) = ⊥
-
   -- with this closed session before the others
   abbrev pub closing : Agent V → Closed V → Agent V
   closing g x = record g { closed = x ∷ g.closed }
@@ -148,7 +143,7 @@ module _ {V : Type 0} (s : Setup) (vs : Versions V) (a : ℕ) (known : Known V) 
     pub aside : (g : Agent V) (life : Life) (leases : List Lease) (tallies : List RankFacts) (opens : ℕ) → is_up life ≡ is_up g.life
         → P g (silent (record g { life = life; leases = leases; tallies = tallies; opens = opens }))
     pub told : (g : Agent V) (request : RequestNo) → P g (silent (untold g request))
-    pub waits : (g : Agent V) (w : Option (Waiting V)) → ¬ IsReading w → P g (silent (awaiting g w))
+    pub waits : (g : Agent V) (w : Option (Waiting V)) → open_of w ≡ None → P g (silent (awaiting g w))
     pub says_plain : (g : Agent V) (x : Saying) → IsPlain x → P g (saying g x)
     -- steps
     pub asks : (g : Agent V) (step : Step V) → IsCommon step → P g (asks_step a g step)
@@ -236,7 +231,7 @@ module _ {V : Type 0} (s : Setup) (vs : Versions V) (a : ℕ) (known : Known V) 
   after g h r first second = m.follow g (silent h) r first second
 
   answers : (g : Agent V) (x : Saying) → IsPlain x → P g (answered g x)
-  answers g x plain = after g (awaiting g None) _ (m.waits g None (λ none. none)) (m.says_plain (awaiting g None) x plain)
+  answers g x plain = after g (awaiting g None) _ (m.waits g None refl) (m.says_plain (awaiting g None) x plain)
 
   answers_unleased : (g : Agent V) (h : ℕ) (x : Saying) → IsPlain x → P g (answered (unleased g h) x)
   answers_unleased g h x plain = after g (unleased g h) _ (leases_aside g (unleased g h).leases) (answers (unleased g h) x plain)
@@ -248,7 +243,7 @@ module _ {V : Type 0} (s : Setup) (vs : Versions V) (a : ℕ) (known : Known V) 
 
   steps : (g : Agent V) (step : Step V) → IsCommon step → P g (calls_step a g step)
   steps g step other =
-      after g (awaiting g (Some For_step)) _ (m.waits g (Some For_step) (λ none. none))
+      after g (awaiting g (Some For_step)) _ (m.waits g (Some For_step) refl)
       (m.asks (awaiting g (Some For_step)) step other)
 
   asks_open : (g : Agent V) (step : (session : ℕ) → Session_step V) → ((h : ℕ) → IsCommon (On_sessions (step h))) → P g (opens a g step)
@@ -267,12 +262,12 @@ module _ {V : Type 0} (s : Setup) (vs : Versions V) (a : ℕ) (known : Known V) 
       let all : List (Closed V) = g.closed ++ (record { number = h; session = y; upload = None }) ∷ [] in
       chosen (P g) y.writes _ _
       (λ writes. after g (record left { closed = all }) _ (m.closes g h y found)
-      (m.waits (record left { closed = all }) (Some For_close) (λ none. none)))
+      (m.waits (record left { closed = all }) (Some For_close) refl))
       (λ reads. after g left _ (m.ends g h) (m.says_plain left (says.Ended h) tt))
 
   called_by : (g : Agent V) (call : Call) → known.call call → P g (called a s g call)
   called_by g (calls.Create path) k = unless g (path_names s path) _ (λ names ok.
-      after g (awaiting g (Some For_step)) _ (m.waits g (Some For_step) (λ none. none)) (m.makes (awaiting g (Some For_step)) path names k))
+      after g (awaiting g (Some For_step)) _ (m.waits g (Some For_step) refl) (m.makes (awaiting g (Some For_step)) path names k))
   called_by g (calls.Stat path) k = unless g (any_names s path) _ (λ names ok. steps g (On_names (Look names)) tt)
   called_by g (calls.OpenR path) k = unless g (path_names s path) _ (λ names ok. asks_open g (Open_read names) (λ h. tt))
   called_by g (calls.OpenW path) k = unless g (path_names s path) _ (λ names ok. asks_open g (Open_write names) (λ h. tt))

@@ -1,5 +1,5 @@
 -- Whatever comes to an agent, its opens are of the versions of its latest saw line.
-use Rattle.std.proofs.Common.{◌≡◌, ℕ, List, [], ◌∷◌, ◌++◌, Bool, true, false, cond, refl, sym, subst, ◌∙◌, Option, Some, None, eqb, fold}
+use Rattle.std.proofs.Common.{◌≡◌, ℕ, List, [], ◌∷◌, ◌++◌, Bool, true, false, cond, refl, sym, subst, ◌∙◌, Option, Some, None, eqb, fold, IfSome}
 use Rattle.std.proofs.lemmas.Bool.{eqb-true, eqb-false}
 use Rattle.scfs_base.specs.declared.naming.RequestNo.{RequestNo}
 use Rattle.scfs_model.specs.Format.{Setup}
@@ -10,11 +10,12 @@ use Rattle.scfs_model.specs.Lives.{is_up}
 use Rattle.scfs_model.specs.SessionSteps.{Sight}
 use Rattle.scfs_model.specs.Sayings.{Saying}
 use Rattle.scfs_model.specs.Sayings as says
-use Rattle.scfs_model.specs.Agents.{Opening, Waiting, For_step, For_clouds, For_close, Agent, Input, Reaction}
+use Rattle.scfs_model.specs.Agents.{Opening, Waiting, Agent, Input, Reaction}
 use Rattle.scfs_model.specs.Opens.{Found, As_empty, On_clouds, found_version, found}
 use Rattle.scfs_model.specs.Reactions.{reacted}
 use Rattle.scfs_laws.specs.Newest.{Saw_line, WasNewest, IsNewest, IsFrom}
-use Rattle.scfs_laws.proofs.Moves.{Known, IsInput, has_up, IsPlain, IsReading, Moves, reacts}
+use Rattle.scfs_laws.specs.Sound.{open_of}
+use Rattle.scfs_laws.proofs.Moves.{Known, IsInput, has_up, IsPlain, Moves, reacts}
 use Rattle.scfs_laws.proofs.NewestVersions.{VersionOk}
 
 -- the latest saw line after what an agent says
@@ -52,20 +53,11 @@ module _ (past : History) (a : ℕ) where
 
 module _ {V : Type 0} (vs : Versions V) (past : History) where
   -- what is known of an open that reads the clouds
-  abbrev IsOpen : Option Saw_line → Opening V → Type 0
+  abbrev pub IsOpen : Option Saw_line → Opening V → Type 0
   IsOpen latest o = IsNewest past latest (vs.number o.version) × ¬ (vs.number o.version ≡ 0)
 
   abbrev pub WaitOk : Option Saw_line → Option (Waiting V) → Type 0
-  WaitOk latest None = Unit {0}
-  WaitOk latest (Some For_step) = Unit {0}
-  WaitOk latest (Some (For_clouds o)) = IsOpen latest o
-  WaitOk latest (Some For_close) = Unit {0}
-
-  wait_free : (latest : Option Saw_line) (w : Option (Waiting V)) → ¬ IsReading w → WaitOk latest w
-  wait_free latest None free = tt
-  wait_free latest (Some For_step) free = tt
-  wait_free latest (Some (For_clouds o)) free = absurd (free tt)
-  wait_free latest (Some For_close) free = tt
+  WaitOk latest w = IfSome (open_of w) (IsOpen latest)
 
   -- of a sight that is told
   abbrev pub SightOk : (a : ℕ) → RequestNo → Sight V → Type 0
@@ -119,7 +111,7 @@ module _ {V : Type 0} (s : Setup) (vs : Versions V) (past : History) (a : ℕ) w
             );
         aside = λ g life leases tallies opens same latest w. (tt, w);
         told = λ g request latest w. (tt, w);
-        waits = λ g later free latest w. (tt, wait_free vs past latest later free);
+        waits = λ g later free latest w. (tt, subst (λ o. IfSome o (IsOpen vs past latest)) (sym free) tt);
         says_plain = λ g x plain latest w.
             let k = plain_ok past a latest x plain in ((k.0, tt), subst (λ l. WaitOk vs past l g.waiting) (sym k.1) w);
         asks = λ g step common latest w. (tt, w);

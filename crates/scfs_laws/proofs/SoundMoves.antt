@@ -1,5 +1,5 @@
 -- What an agent does on an input keeps what holds of its versions and sessions: what it seals is put.
-use Rattle.std.proofs.Common.{◌≡◌, ℕ, zero, suc, ◌+◌, ◌<◌, ◌≤◌, List, map, refl, subst, arith, eq-or-lt_of_le, inl, inr, Option, Some, None, IfSome}
+use Rattle.std.proofs.Common.{◌≡◌, ℕ, zero, suc, ◌+◌, ◌<◌, ◌≤◌, List, map, refl, sym, subst, arith, eq-or-lt_of_le, inl, inr, Option, Some, None, IfSome}
 use Rattle.std.specs.Prelude.{◌==◌}
 use Rattle.std.specs.List.{range_with_len}
 use Rattle.std.proofs.lemmas.List.Elements.{All-nil}
@@ -12,15 +12,15 @@ use Rattle.scfs_model.specs.Given.{Given}
 use Rattle.scfs_model.specs.Asked.{Asked, asked_of}
 use Rattle.scfs_model.specs.SessionSteps.{Open_read, Open_write, Commit, Sight}
 use Rattle.scfs_model.specs.Steps.{Step, On_names, On_locks, On_sessions}
-use Rattle.scfs_model.specs.Agents.{Waiting, For_step, For_clouds, For_close, Closed, Agent, Input, Reaction}
+use Rattle.scfs_model.specs.Agents.{Closed, Agent, Input, Reaction}
 use Rattle.scfs_model.specs.Opens.{Found, As_empty, On_clouds, found_version, found}
 use Rattle.scfs_model.specs.Closes.{begins}
 use Rattle.scfs_model.specs.Reactions.{reacted}
 use Rattle.scfs_laws.proofs.Lists.{Each, chosen, each-append, each-front, each-back}
-use Rattle.scfs_laws.proofs.SoundKept.{IsSession, IsVersion, IsSent, IsClosed, IsStep, IsRequest, IsWaiting, IsAgent, known}
+use Rattle.scfs_laws.proofs.SoundKept.{IsSession, IsVersion, IsSent, IsClosed, IsStep, IsRequest, IsOpening, IsAgent, known}
 use Rattle.scfs_laws.proofs.SoundContents.{IsChanged, no_contents, opened_fits, there_fits, ended_fits, after_fits, write_fits, truncate_fits}
 use Rattle.scfs_laws.proofs.SoundPieces.{none_good, heard_good}
-use Rattle.scfs_laws.proofs.Moves.{IsInput, has_up, IsCommon, IsReading, closing, Moves, reacts}
+use Rattle.scfs_laws.proofs.Moves.{IsInput, has_up, IsCommon, closing, Moves, reacts}
 
 module _ (s : Setup) (Among : (c : ℕ) → (bytes : List ℕ) → Type 0) (a : ℕ) where
   -- where the objects that are put are among those looked at
@@ -46,12 +46,6 @@ module _ (s : Setup) (Among : (c : ℕ) → (bytes : List ℕ) → Type 0) (a : 
   common_step (On_sessions (Open_write names h)) common = tt
   common_step (On_sessions (Commit h v)) common = absurd common
 
-  wait_free : (w : Option (Waiting Version)) → ¬ IsReading w → IsWaiting s Among w
-  wait_free None free = tt
-  wait_free (Some For_step) free = tt
-  wait_free (Some (For_clouds o)) free = absurd (free tt)
-  wait_free (Some For_close) free = tt
-
   abbrev IsFound : Found Version → Type 0
   IsFound As_empty = Unit {0}
   IsFound (On_clouds v) = IsVersion s Among v
@@ -75,7 +69,7 @@ module _ (s : Setup) (Among : (c : ℕ) → (bytes : List ℕ) → Type 0) (a : 
             (n.0, each-append (IsRequest s Among) first.steps second.steps h.1 n.1);
         aside = λ g life leases tallies opens same k sent. (k, tt);
         told = λ g request k sent. (k, tt);
-        waits = λ g w free k sent. ((wait_free w free, k.1, k.2), tt);
+        waits = λ g w free k sent. ((subst (λ o. IfSome o (IsOpening s Among)) (sym free) tt, k.1, k.2), tt);
         says_plain = λ g x plain k sent. (k, tt);
         asks = λ g step common k sent. (k, (common_step step common, tt));
         makes = λ g path names w k sent. (k, (tt, tt));
