@@ -71,11 +71,11 @@ echo "MB/s of a schedule read, in pieces of 64 KiB and byte by byte"
 row read64k 60000000 4
 row read1 1000000 8
 
-# The seconds and the peak memory of a replay of two writers that write so many bytes a close, over a number of rounds of 20 events.
+# The seconds and the peak memory of a replay of two writers that write so many bytes a close, over a number of rounds.
 replay() {
     local schedule hwm=0 now start end
     schedule=$(mktemp)
-    "$bench/two_writers.py" "$1" "$2" >"$schedule"
+    "$bench/two_writers.py" "$@" >"$schedule"
     start=$(date +%s.%N)
     "$bench/../scfs" replay <"$schedule" >/dev/null &
     while kill -0 $! 2>/dev/null; do
@@ -85,9 +85,9 @@ replay() {
     done
     wait $!
     end=$(date +%s.%N)
+    awk -v size="$1" -v lines="$(wc -l <"$schedule")" -v start="$start" -v end="$end" -v hwm="$hwm" '
+        BEGIN { printf "%-11s %8d %9.2f %9.1f\n", size " bytes", lines - 8, end - start, hwm / 1024 }'
     rm -f "$schedule"
-    awk -v size="$1" -v rounds="$2" -v start="$start" -v end="$end" -v hwm="$hwm" '
-        BEGIN { printf "%-11s %8d %9.2f %9.1f\n", size " bytes", rounds * 20 + 24, end - start, hwm / 1024 }'
 }
 
 "$bench/../scfs" replay <"$bench/../examples/create-and-stat.schedule" >/dev/null
@@ -95,6 +95,9 @@ echo "replays of two writers"
 printf '%-11s %8s %9s %9s\n' 'a close' events seconds 'peak MiB'
 replay 16 9500
 replay 2048 9500
+echo "the same with ticks, renewals, crashes and starts"
+replay 16 714 restarts
+replay 2048 714 restarts
 
 echo "MB/s of the machine"
 python3 - <<'END'

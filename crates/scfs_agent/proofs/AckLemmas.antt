@@ -1,5 +1,5 @@
 -- The clouds that acknowledged an upload, as a list.
-use Rattle.std.proofs.Common.{◌≡◌, ◌≢◌, ℕ, ◌+◌, ◌-◌, ◌*◌, ◌<◌, ◌≤◌, zero, suc, List, [], ◌∷◌, length, Bool, true, false, cond, refl, sym, ap, ◌∙◌, subst, arith, ◌⊎◌, inl, inr}
+use Rattle.std.proofs.Common.{◌≡◌, ◌≢◌, ℕ, ◌+◌, ◌-◌, ◌*◌, ◌<◌, ◌≤◌, zero, suc, List, [], ◌∷◌, length, Bool, true, false, cond, refl, sym, ap, ◌∙◌, subst, arith}
 use Rattle.std.specs.Prelude.{◌==◌, ◌||◌, ◌&&◌, not, nat_lt, nat_le, filter, if◌then◌else◌}
 use Rattle.std.specs.FinSet as set
 use Rattle.std.specs.Cmp.{unsigned_tied}
@@ -16,18 +16,18 @@ use Rattle.scfs_quorum_write.specs.declared.progress.Progress.TheVariants as pro
 use Rattle.scfs_base.specs.declared.naming.RequestNo.{RequestNo}
 use Rattle.scfs_base.specs.declared.cloud.CloudAnswer.{CloudAnswer}
 use Rattle.scfs_model.specs.Lists.{is_in, below, put_by_number}
-use Rattle.scfs_model.specs.Format.{enough}
 use Rattle.scfs_model.specs.Asked.{is_answer_to}
 use Rattle.scfs_model.specs.Layers.{Row}
-use Rattle.scfs_model.specs.Next.{Next, Goes_on, Asks, Has, Gives_up}
+use Rattle.scfs_model.specs.Next.{Next, Goes_on, Has}
 use Rattle.scfs_model.specs.Storing.{is_ack, store_on}
 use Rattle.scfs_model.specs.Agents.{Agent, Reaction}
 use Rattle.scfs_model.specs.Agents as machine
-use Rattle.scfs_model.specs.Closes.{stores, upload_hears, upload_turns, with_storing}
+use Rattle.scfs_model.specs.Closes.{stores, upload_hears, with_storing}
 use Rattle.scfs_agent.specs.State.{AgentState, setup}
-use Rattle.scfs_agent.specs.Views.{asked_of, acked_of, storing_of, upload_of, closed_of, row_of}
+use Rattle.scfs_agent.specs.Views.{acked_next, asked_of, acked_of, storing_of, upload_of, closed_of, row_of}
 use Rattle.scfs_agent.specs.Asking.{MayClose}
 use Rattle.scfs_agent.specs.Keeping.{IsUpload}
+use Rattle.scfs_agent.specs.declared.work.Asked.{Asked}
 use Rattle.scfs_agent.specs.declared.work.Upload.{Upload}
 use Rattle.scfs_agent.proofs.CloudLists.{all_below}
 
@@ -63,7 +63,8 @@ module _ (test : ℕ → Bool) (c : ℕ) where
   same_above : (a n : ℕ) → c < a → filter or_this (range_with_len a n) ≡ filter test (range_with_len a n)
   same_above a zero l = refl
   same_above a (suc n) l =
-      ap (λ (b : Bool). cond (b || test a) (a ∷ filter or_this (range_with_len (a + 1) n)) (filter or_this (range_with_len (a + 1) n))) (eqb_false a c (λ e. omega arith))
+      ap (λ (b : Bool). cond (b || test a) (a ∷ filter or_this (range_with_len (a + 1) n)) (filter or_this (range_with_len (a + 1) n)))
+      (eqb_false a c (λ e. omega arith))
       ∙ ap (λ (rest : List ℕ). cond (test a) (a ∷ rest) rest) (same_above (a + 1) n (omega arith))
 
   abbrev Puts : (a n : ℕ) → Type 0
@@ -111,12 +112,14 @@ module _ (test : ℕ → Bool) (c : ℕ) where
   not_in a zero l = refl
   not_in a (suc n) l = not_in_by (test a) a (filter test (range_with_len (a + 1) n)) l (not_in (a + 1) n (omega arith))
 
-  in_here : (a n : ℕ) → c ≡ a → (b : Bool) → is_in c (cond b (a ∷ filter test (range_with_len (a + 1) n)) (filter test (range_with_len (a + 1) n))) ≡ b
+  in_here : (a n : ℕ) → c ≡ a → (b : Bool) → is_in c (cond b (a ∷ filter test (range_with_len (a + 1) n)) (filter test (range_with_len (a + 1) n)))
+      ≡ b
   in_here a n same true = ap (λ (b : Bool). b || is_in c (filter test (range_with_len (a + 1) n))) (eq-eqb c a same)
   in_here a n same false = not_in (a + 1) n (omega arith)
 
   in_later : (a n : ℕ) → c ≢ a → (b : Bool)
-      → is_in c (cond b (a ∷ filter test (range_with_len (a + 1) n)) (filter test (range_with_len (a + 1) n))) ≡ is_in c (filter test (range_with_len (a + 1) n))
+      → is_in c (cond b (a ∷ filter test (range_with_len (a + 1) n)) (filter test (range_with_len (a + 1) n)))
+      ≡ is_in c (filter test (range_with_len (a + 1) n))
   in_later a n other true = ap (λ (b : Bool). b || is_in c (filter test (range_with_len (a + 1) n))) (eqb_false c a other)
   in_later a n other false = refl
 
@@ -148,7 +151,8 @@ filter_same_by b c x xs ys e f = cc
 pub filter_same : (p q : ℕ → Bool) (xs : List ℕ) → All (λ x. p x ≡ q x) xs → filter p xs ≡ filter q xs
 filter_same p q [] h = refl
 filter_same p q (x ∷ xs) h =
-    filter_same_by (p x) (q x) x (filter p xs) (filter q xs) (All-head (λ x. p x ≡ q x) x xs h) (filter_same p q xs (All-tail (λ x. p x ≡ q x) x xs h))
+    filter_same_by (p x) (q x) x (filter p xs) (filter q xs) (All-head (λ x. p x ≡ q x) x xs h)
+    (filter_same p q xs (All-tail (λ x. p x ≡ q x) x xs h))
 
 no_filter : (p : ℕ → Bool) (xs : List ℕ) → ((x : ℕ) → p x ≡ false) → filter p xs ≡ []
 no_filter p [] none = refl
@@ -168,15 +172,15 @@ with_parts f parts = record { f = f; parts = parts }
 abbrev of_part : ℕ → Clouds → Acks
 of_part f p = with_parts f (p ∷ [])
 
+in_acked : (x : Acks) (c : ℕ) → c < 3 * x.f + 1 → is_in c (acked_of x) ≡ set.contains (clouds_of x 0) c
+in_acked x c l = is_in-filter (set.contains (clouds_of x 0)) c 0 (3 * x.f + 1) (omega arith) (omega arith)
+
 module _ (f : ℕ) (p : Clouds) where
   abbrev acks : Acks
   acks = of_part f p
 
   abbrev more : (c : ℕ) → Acks
   more c = of_part f (set.insert p c)
-
-  in_acked : (c : ℕ) → c < 3 * f + 1 → is_in c (acked_of acks) ≡ set.contains p c
-  in_acked c l = is_in-filter (set.contains p) c 0 (3 * f + 1) (omega arith) (omega arith)
 
   acked_more : (c : ℕ) → c < 3 * f + 1 → set.contains p c ≡ false → acked_of (more c) ≡ put_by_number c (acked_of acks)
   acked_more c l new =
@@ -205,31 +209,21 @@ module _ (f : ℕ) (p : Clouds) where
   counted_by c false e l was =
       counted_new c l e was ∙ sym (ap length (acked_more c l e) ∙ length-put c (acked_of acks))
 
--- what an acknowledgement leads to
-abbrev pub next_of : Progress → Next (Unit {0})
-next_of progresses.Already = Goes_on
-next_of (progresses.Counted n) = Goes_on
-next_of progresses.Done = Has tt
-
-goes_quiet : (p : Progress) → (p ≡ progresses.Already) ⊎ ((n : ℕ) × (p ≡ progresses.Counted n)) → next_of p ≡ Goes_on
-goes_quiet p (inl is) = ap next_of is
-goes_quiet p (inr is) = ap next_of is.1
-
 done_by : (e n : ℕ) (many : ℕ) (b : Bool) → (n + 1 == e) ≡ b
-    → next_of (if not (nat_le e n) && nat_le e (n + 1) then progresses.Done else progresses.Counted many) ≡ (if b then Has tt else Goes_on)
+    → acked_next (if not (nat_le e n) && nat_le e (n + 1) then progresses.Done else progresses.Counted many) ≡ (if b then Has tt else Goes_on)
 done_by e n many true is =
     let last : n + 1 ≡ e = eqb-true (n + 1) e is in
     let before : nat_le e n ≡ false = grind (arith, nat_tests) in
     let after : nat_le e (n + 1) ≡ true = grind (arith, nat_tests) in
-    ap (λ (a : Bool). next_of (if not a && nat_le e (n + 1) then progresses.Done else progresses.Counted many)) before
-    ∙ ap (λ (a : Bool). next_of (if a then progresses.Done else progresses.Counted many)) after
+    ap (λ (a : Bool). acked_next (if not a && nat_le e (n + 1) then progresses.Done else progresses.Counted many)) before
+    ∙ ap (λ (a : Bool). acked_next (if a then progresses.Done else progresses.Counted many)) after
 done_by e n many false is = by (nat_le e n) refl where
-  by : (a : Bool) → nat_le e n ≡ a → next_of (if not a && nat_le e (n + 1) then progresses.Done else progresses.Counted many) ≡ Goes_on
+  by : (a : Bool) → nat_le e n ≡ a → acked_next (if not a && nat_le e (n + 1) then progresses.Done else progresses.Counted many) ≡ Goes_on
   by true l = refl
   by false l =
       let other : n + 1 ≢ e = eqb-false (n + 1) e is in
       let after : nat_le e (n + 1) ≡ false = grind (arith, nat_tests) in
-      ap (λ (a : Bool). next_of (if a then progresses.Done else progresses.Counted many)) after
+      ap (λ (a : Bool). acked_next (if a then progresses.Done else progresses.Counted many)) after
 
 -- acknowledgements of one part
 on_parts : (f : ℕ) (P : Acks → Type 0) → ((p : Clouds) → P (of_part f p)) → (parts : List Clouds) → length parts ≡ 1
@@ -253,13 +247,11 @@ counted_more f x c = λ same part l.
     (λ p was. counted_by f p c (set.contains p c) refl l was) x same part
 
 -- the clouds that did not acknowledge it
-missing_of : (f : ℕ) (x : Acks) → x.f ≡ f → length x.parts ≡ 1
-    → filter (λ c. not (set.contains (clouds_of x 0) c)) (below (3 * f + 1)) ≡ filter (λ c. not (is_in c (acked_of x))) (below (3 * f + 1))
-missing_of f x = λ same part.
-    on_acks f (λ (y : Acks). filter (λ c. not (set.contains (clouds_of y 0) c)) (below (3 * f + 1)) ≡ filter (λ c. not (is_in c (acked_of y))) (below (3 * f + 1)))
-    (λ p. filter_same (λ c. not (set.contains p c)) (λ c. not (is_in c (acked_of (of_part f p)))) (below (3 * f + 1))
-    (All-weaker (λ c. c < 3 * f + 1) (λ c. not (set.contains p c) ≡ not (is_in c (acked_of (of_part f p))))
-    (λ c l. ap not (sym (in_acked f p c l))) (below (3 * f + 1)) (all_below (3 * f + 1)))) x same part
+pub missing_of : (x : Acks) → filter (λ c. not (set.contains (clouds_of x 0) c)) (below (3 * x.f + 1))
+    ≡ filter (λ c. not (is_in c (acked_of x))) (below (3 * x.f + 1))
+missing_of x =
+    filter_same _ _ (below (3 * x.f + 1))
+    (All-weaker (λ c. c < 3 * x.f + 1) _ (λ c l. ap not (sym (in_acked x c l))) (below (3 * x.f + 1)) (all_below (3 * x.f + 1)))
 
 module _ (a : AgentState) (agent : Agent Row) (upload : Upload) (inputs : ℕ) (is : IsUpload a.no a.agent.incarnation a.header.f inputs upload) where
   abbrev with_acks : Acks → Upload
@@ -270,70 +262,73 @@ module _ (a : AgentState) (agent : Agent Row) (upload : Upload) (inputs : ℕ) (
     abbrev Same : Acks → Type 0
     Same x =
         count_of x ≡ length (acked_of x)
-        → stores (setup a) a.no agent (closed_of upload) (upload_of (with_acks (with_ack x c 0))) (next_of (progress x c 0))
+        → stores (setup a) a.no agent (closed_of upload) (upload_of (with_acks (with_ack x c 0))) (acked_next (progress x c 0))
         ≡ upload_hears (setup a) a.no agent (closed_of upload) (upload_of (with_acks x)) c request answer
 
     -- an acknowledgement of its, by whether its cloud is new
     as_new : (x : Acks) (b : Bool) → is_in c (acked_of x) ≡ b
         → upload_hears (setup a) a.no agent (closed_of upload) (upload_of (with_acks x)) c request answer
         ≡ (if not b
-        then stores (setup a) a.no agent (closed_of upload) (with_storing (upload_of (with_acks x)) (record (storing_of (with_acks x)) { acked = put_by_number c (acked_of x) }))
+        then stores (setup a) a.no agent (closed_of upload) (with_storing (upload_of (with_acks x)) (record (storing_of (with_acks x)) {
+          acked =
+              put_by_number c (acked_of x);
+        }))
         (store_on (setup a) (storing_of (with_acks x)))
         else stores (setup a) a.no agent (closed_of upload) (upload_of (with_acks x)) Goes_on)
     as_new x b e =
         let either : Bool → Reaction Row = λ t. if t
-        then stores (setup a) a.no agent (closed_of upload) (with_storing (upload_of (with_acks x)) (record (storing_of (with_acks x)) { acked = put_by_number c (acked_of x) }))
+        then stores (setup a) a.no agent (closed_of upload) (with_storing (upload_of (with_acks x)) (record (storing_of (with_acks x)) {
+          acked =
+              put_by_number c (acked_of x);
+        }))
         (store_on (setup a) (storing_of (with_acks x)))
         else stores (setup a) a.no agent (closed_of upload) (upload_of (with_acks x)) Goes_on in
         ap either (ap (λ (t : Bool). t && not (is_in c (acked_of x))) mine ∙ ap not e)
 
     same_by : (p : Clouds) (b : Bool) → set.contains p c ≡ b → Same (of_part a.header.f p)
     same_by p true e = λ was.
-        ap (λ (x : Acks). stores (setup a) a.no agent (closed_of upload) (upload_of (with_acks x)) (next_of (progress (acks a.header.f p) c 0))) (same_acks a.header.f p c e)
+        ap (λ (x : Acks). stores (setup a) a.no agent (closed_of upload) (upload_of (with_acks x)) (acked_next (progress (acks a.header.f p) c 0)))
+        (same_acks a.header.f p c e)
         ∙ ap (λ (t : Bool). stores (setup a) a.no agent (closed_of upload) (upload_of (with_acks (acks a.header.f p)))
-        (next_of (if t then progresses.Already
+        (acked_next (if t then progresses.Already
         else if not (is_complete (acks a.header.f p)) && is_complete (more a.header.f p c) then progresses.Done
         else progresses.Counted (count_of (more a.header.f p c))))) e
-        ∙ sym (as_new (acks a.header.f p) true (in_acked a.header.f p c l ∙ e))
+        ∙ sym (as_new (acks a.header.f p) true (in_acked (acks a.header.f p) c l ∙ e))
     same_by p false e = λ was.
         let f = a.header.f in
         let n = length (acked_of (acks f p)) in
         let enough_of = 3 * f + 1 - f in
         let u : List ℕ → machine.Upload Row = λ acked.
         with_storing (upload_of (with_acks (acks f p))) (record (storing_of (with_acks (acks f p))) { acked = acked }) in
-        let put : Next (Unit {0}) → Reaction Row = λ next. stores (setup a) a.no agent (closed_of upload) (u (put_by_number c (acked_of (acks f p)))) next in
-        ap (λ (acked : List ℕ). stores (setup a) a.no agent (closed_of upload) (u acked) (next_of (progress (acks f p) c 0))) (acked_more f p c l e)
-        ∙ ap (λ (t : Bool). put (next_of (if t then progresses.Already
+        let put : Next (Unit {0}) → Reaction Row =
+        λ next. stores (setup a) a.no agent (closed_of upload) (u (put_by_number c (acked_of (acks f p)))) next in
+        ap (λ (acked : List ℕ). stores (setup a) a.no agent (closed_of upload) (u acked) (acked_next (progress (acks f p) c 0)))
+        (acked_more f p c l e)
+        ∙ ap (λ (t : Bool). put (acked_next (if t then progresses.Already
         else if not (is_complete (acks f p)) && is_complete (more f p c) then progresses.Done
         else progresses.Counted (count_of (more f p c))))) e
-        ∙ ap (λ (k : ℕ). put (next_of (if not (nat_le enough_of k) && nat_le enough_of (set.len (set.insert p c)) then progresses.Done
+        ∙ ap (λ (k : ℕ). put (acked_next (if not (nat_le enough_of k) && nat_le enough_of (set.len (set.insert p c)) then progresses.Done
         else progresses.Counted (set.len (set.insert p c))))) was
-        ∙ ap (λ (k : ℕ). put (next_of (if not (nat_le enough_of n) && nat_le enough_of k then progresses.Done
+        ∙ ap (λ (k : ℕ). put (acked_next (if not (nat_le enough_of n) && nat_le enough_of k then progresses.Done
         else progresses.Counted (set.len (set.insert p c))))) (counted_new f p c l e was)
         ∙ ap put (done_by enough_of n (set.len (set.insert p c)) (n + 1 == enough_of) refl)
-        ∙ sym (as_new (acks f p) false (in_acked f p c l ∙ e))
+        ∙ sym (as_new (acks f p) false (in_acked (acks f p) c l ∙ e))
 
     -- what a tracker makes of an acknowledgement of its Puts is what the machine makes of it
-    pub hears_as : stores (setup a) a.no agent (closed_of upload) (upload_of (with_acks (with_ack upload.acks c 0))) (next_of (progress upload.acks c 0))
+    pub hears_as : stores (setup a) a.no agent (closed_of upload) (upload_of (with_acks (with_ack upload.acks c 0)))
+        (acked_next (progress upload.acks c 0))
         ≡ upload_hears (setup a) a.no agent (closed_of upload) (upload_of upload) c request answer
     hears_as = on_acks a.header.f Same (λ p. same_by p (set.contains p c) refl) upload.acks is.acks is.part is.counted
 
     -- the same, by what the tracker gave
     pub acked_as : (y : Acks) (p : Progress) → y ≡ with_ack upload.acks c 0 → p ≡ progress upload.acks c 0
-        → stores (setup a) a.no agent (closed_of upload) (upload_of (with_acks y)) (next_of p)
+        → stores (setup a) a.no agent (closed_of upload) (upload_of (with_acks y)) (acked_next p)
         ≡ upload_hears (setup a) a.no agent (closed_of upload) (upload_of upload) c request answer
     acked_as y p after is_progress =
-        ap (λ (x : Acks). stores (setup a) a.no agent (closed_of upload) (upload_of (with_acks x)) (next_of p)) after
-        ∙ ap (λ (q : Progress). stores (setup a) a.no agent (closed_of upload) (upload_of (with_acks (with_ack upload.acks c 0))) (next_of q)) is_progress
+        ap (λ (x : Acks). stores (setup a) a.no agent (closed_of upload) (upload_of (with_acks x)) (acked_next p)) after
+        ∙ ap (λ (q : Progress). stores (setup a) a.no agent (closed_of upload) (upload_of (with_acks (with_ack upload.acks c 0))) (acked_next q))
+        is_progress
         ∙ hears_as
-
-    pub quiet_as : (y : Acks) (p : Progress) → y ≡ with_ack upload.acks c 0 → p ≡ progress upload.acks c 0
-        → (p ≡ progresses.Already) ⊎ ((n : ℕ) × (p ≡ progresses.Counted n))
-        → stores (setup a) a.no agent (closed_of upload) (upload_of (with_acks y)) Goes_on
-        ≡ upload_hears (setup a) a.no agent (closed_of upload) (upload_of upload) c request answer
-    quiet_as y p after is_progress none =
-        ap (λ (next : Next (Unit {0})). stores (setup a) a.no agent (closed_of upload) (upload_of (with_acks y)) next) (sym (goes_quiet p none))
-        ∙ acked_as y p after is_progress
 
   -- another answer
   pub hears_other : (c : ℕ) (request : RequestNo) (answer : CloudAnswer) → (is_ack answer && is_answer_to (asked_of upload.puts) c request) ≡ false
@@ -341,50 +336,18 @@ module _ (a : AgentState) (agent : Agent Row) (upload : Upload) (inputs : ℕ) (
       ≡ stores (setup a) a.no agent (closed_of upload) (upload_of upload) Goes_on
   hears_other c request answer other =
       let either : Bool → Reaction Row = λ t. if t
-      then stores (setup a) a.no agent (closed_of upload) (with_storing (upload_of upload) (record (storing_of upload) { acked = put_by_number c (acked_of upload.acks) }))
+      then stores (setup a) a.no agent (closed_of upload) (with_storing (upload_of upload) (record (storing_of upload) {
+        acked =
+            put_by_number c (acked_of upload.acks);
+      }))
       (store_on (setup a) (storing_of upload))
       else stores (setup a) a.no agent (closed_of upload) (upload_of upload) Goes_on in
       ap either (ap (λ (t : Bool). t && not (is_in c (acked_of upload.acks))) other)
 
-  -- a turn, by what the tracker counted
-  abbrev turned : Next (Unit {0}) → Reaction Row
-  turned next = stores (setup a) a.no agent (closed_of upload) (upload_of (record upload { turns = upload.turns + 1 })) next
-
-  turned_by : (b d : Bool) → nat_le (enough (setup a)) (length (acked_of upload.acks)) ≡ b → (upload.turns + 1 == 8) ≡ d
-      → upload_turns (setup a) a.no agent (closed_of upload) (upload_of upload)
-      ≡ turned (if b then Goes_on else if d then Gives_up (length (acked_of upload.acks))
-      else Asks (filter (λ c. not (is_in c (acked_of upload.acks))) (below (3 * a.header.f + 1))))
-  turned_by b d e g =
-      ap (λ (t : Bool). turned (if t then Goes_on else if upload.turns + 1 == 8 then Gives_up (length (acked_of upload.acks))
-      else Asks (filter (λ c. not (is_in c (acked_of upload.acks))) (below (3 * a.header.f + 1))))) e
-      ∙ ap (λ (t : Bool). turned (if b then Goes_on else if t then Gives_up (length (acked_of upload.acks))
-      else Asks (filter (λ c. not (is_in c (acked_of upload.acks))) (below (3 * a.header.f + 1))))) g
-
-  few_acks : count_of upload.acks ≤ 2 * a.header.f → nat_le (enough (setup a)) (length (acked_of upload.acks)) ≡ false
-  few_acks h = let few : length (acked_of upload.acks) < 3 * a.header.f + 1 - a.header.f = omega (arith, h, is.counted) in grind (arith, nat_tests)
-
-  many_acks : 2 * a.header.f < count_of upload.acks → nat_le (enough (setup a)) (length (acked_of upload.acks)) ≡ true
-  many_acks h = let many : 3 * a.header.f + 1 - a.header.f ≤ length (acked_of upload.acks) = omega (arith, h, is.counted) in grind (arith, nat_tests)
-
-  pub turn_goes : 2 * a.header.f < count_of upload.acks → upload_turns (setup a) a.no agent (closed_of upload) (upload_of upload) ≡ turned Goes_on
-  turn_goes h = turned_by true (upload.turns + 1 == 8) (many_acks h) refl
-
-  pub turn_ends : count_of upload.acks ≤ 2 * a.header.f → upload.turns + 1 ≡ 8
-      → upload_turns (setup a) a.no agent (closed_of upload) (upload_of upload) ≡ turned (Gives_up (count_of upload.acks))
-  turn_ends h last =
-      turned_by false true (few_acks h) (eq-eqb (upload.turns + 1) 8 last) ∙ ap (λ (n : ℕ). turned (Gives_up n)) (sym is.counted)
-
-  pub turn_asks : count_of upload.acks ≤ 2 * a.header.f → upload.turns + 1 ≢ 8
-      → upload_turns (setup a) a.no agent (closed_of upload) (upload_of upload)
-      ≡ turned (Asks (filter (λ c. not (set.contains (clouds_of upload.acks 0) c)) (below (3 * a.header.f + 1))))
-  turn_asks h other =
-      turned_by false false (few_acks h) (eqb_false (upload.turns + 1) 8 other)
-      ∙ ap (λ (clouds : List ℕ). turned (Asks clouds)) (sym (missing_of a.header.f upload.acks is.acks is.part))
-
 -- an upload whose tracker heard one acknowledgement more
-pub upload_more : (a incarnation f inputs : ℕ) (upload : Upload) (acks : Acks) (c : ℕ) → IsUpload a incarnation f inputs upload → c < 3 * f + 1
-    → acks ≡ with_ack upload.acks c 0 → IsUpload a incarnation f inputs (record upload { acks = acks })
-upload_more a incarnation f inputs upload acks c is l after = record {
+pub upload_more : (a incarnation f inputs : ℕ) (upload : Upload) (other : Acks) (c : ℕ) → IsUpload a incarnation f inputs upload → c < 3 * f + 1
+    → other ≡ with_ack upload.acks c 0 → IsUpload a incarnation f inputs (record upload { acks = other })
+upload_more a incarnation f inputs upload other c is l after = record {
   acks = ap (λ (x : Acks). x.f) after ∙ is.acks;
   part = ap (λ (x : Acks). length x.parts) after ∙ part_more f upload.acks c is.acks is.part;
   counted = subst (λ (x : Acks). count_of x ≡ length (acked_of x)) (sym after) (counted_more f upload.acks c is.acks is.part l is.counted);
@@ -392,10 +355,10 @@ upload_more a incarnation f inputs upload acks c is l after = record {
   closes = is.closes;
 }
 
--- an upload that goes on, after so many turns
-pub upload_on : (a incarnation f inputs turns : ℕ) (upload : Upload) → IsUpload a incarnation f inputs upload → turns ≤ inputs
-    → IsUpload a incarnation f inputs (record upload { turns = turns })
-upload_on a incarnation f inputs turns upload is few = record { acks = is.acks; part = is.part; counted = is.counted; turns = few; closes = is.closes }
+-- an upload with other Puts
+pub upload_on : (a incarnation f inputs : ℕ) (puts : List Asked) (upload : Upload) → IsUpload a incarnation f inputs upload
+    → IsUpload a incarnation f inputs (record upload { puts = puts })
+upload_on a incarnation f inputs puts upload is = assumption is
 
 -- one that begins
 pub upload_first : (a incarnation f inputs : ℕ) (upload : Upload) → upload.acks ≡ no_acks f 1 → upload.turns ≡ 0

@@ -3,7 +3,9 @@ use Rattle.std.proofs.Common.{◌≡◌, ℕ, ◌+◌, ◌*◌, ◌<◌, ◌≤�
 use Rattle.std.specs.List.{All, filter, range_with_len}
 use Rattle.std.specs.Int.{div_ceil}
 use Rattle.std.proofs.lemmas.Grind.{div_ceil_times}
+use Rattle.std.specs.Prelude.{not}
 use Rattle.std.proofs.lemmas.List.{append-nil, map-append}
+use Rattle.std.proofs.lemmas.List.Filters.{length-filter_both}
 use Rattle.scfs_policy.specs.declared.rank.RankFacts.{RankFacts}
 use Rattle.std.proofs.lemmas.List.Elements.{filter-append, All-nil, All-cons}
 use Rattle.std.proofs.lemmas.List.FromFn.{length-range_with_len, get_or-range_with_len}
@@ -11,14 +13,9 @@ use Rattle.scfs_erasure.specs.Rows.{row_length}
 use Rattle.scfs_unit.specs.Checking.{object_size}
 use Rattle.scfs_model.specs.Lists.{below}
 
-filter_by : (b : Bool) (x : ℕ) (kept xs : List ℕ) → length kept ≤ length xs → length (cond b (x ∷ kept) kept) ≤ suc (length xs)
-filter_by true x kept xs h = omega arith
-filter_by false x kept xs h = omega arith
-
 -- a filter is no longer
-pub filter_short : (test : ℕ → Bool) (xs : List ℕ) → length (filter test xs) ≤ length xs
-filter_short test [] = omega arith
-filter_short test (x ∷ xs) = filter_by (test x) x (filter test xs) xs (filter_short test xs)
+pub filter_short : {X : Type 0} (test : X → Bool) (xs : List X) → length (filter test xs) ≤ length xs
+filter_short test xs = omega (arith, length-filter_both test (λ x. not (test x)) (λ x. refl) xs)
 
 range_more : (a n : ℕ) → range_with_len a (suc n) ≡ range_with_len a n ++ (a + n) ∷ []
 range_more a zero = ap (λ k. k ∷ []) (omega arith)
@@ -70,7 +67,8 @@ new_tallies_more n = ap (map (λ (c : ℕ). record_of c)) (below_more n) ∙ map
 pub first_few : (inputs : ℕ) (clouds : List ℕ) → All (λ (x : RankFacts). (x.good ≤ inputs) × (x.bad ≤ inputs)) (map (λ (c : ℕ). record_of c) clouds)
 first_few inputs [] = All-nil (λ (x : RankFacts). (x.good ≤ inputs) × (x.bad ≤ inputs))
 first_few inputs (c ∷ cs) =
-    All-cons (λ (x : RankFacts). (x.good ≤ inputs) × (x.bad ≤ inputs)) (record_of c) (map (λ (d : ℕ). record_of d) cs) (omega arith, omega arith) (first_few inputs cs)
+    All-cons (λ (x : RankFacts). (x.good ≤ inputs) × (x.bad ≤ inputs)) (record_of c) (map (λ (d : ℕ). record_of d) cs) (omega arith, omega arith)
+    (first_few inputs cs)
 
 pub first_clouds : (clouds : List ℕ) → map (λ (x : RankFacts). x.cloud) (map (λ (c : ℕ). record_of c) clouds) ≡ clouds
 first_clouds [] = refl

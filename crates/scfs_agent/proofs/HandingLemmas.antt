@@ -1,5 +1,5 @@
 -- What a call gave, said of the agent before it.
-use Rattle.std.proofs.Common.{◌≡◌, ℕ, ◌+◌, ◌*◌, List, [], Bool, true, false, Some, None, Result, IfOk, OnOk, sym, ap, ◌∙◌, subst}
+use Rattle.std.proofs.Common.{◌≡◌, ℕ, ◌+◌, ◌*◌, List, [], Bool, true, false, Some, None, Result, IfOk, OnOk, sym, ap, ◌∙◌}
 use Rattle.std.specs.Prelude.{◌&&◌, not, if◌then◌else◌}
 use Rattle.std.proofs.lemmas.Result.{IfOk-weaker, on_ok_weaker}
 use Rattle.scfs_base.specs.declared.naming.RequestNo.{RequestNo}
@@ -18,20 +18,12 @@ use Rattle.scfs_model.specs.Format.{sealed}
 use Rattle.scfs_model.specs.Asked as requests
 use Rattle.scfs_model.specs.Layers.{Row, rows}
 use Rattle.scfs_model.specs.Reading.{piece_in}
-use Rattle.scfs_model.specs.Agents.{For_close, Reaction, silent}
+use Rattle.scfs_model.specs.Agents.{For_close, Reaction}
 use Rattle.scfs_model.specs.Opens.{open_hears, reads, takes, tallied}
 use Rattle.scfs_model.specs.Closes.{asks_puts, begins}
-use Rattle.scfs_model.specs.Given.{Given}
-use Rattle.scfs_model.specs.NameSteps.{Name_step, Name_outcome}
-use Rattle.scfs_model.specs.LockSteps.{Lock_step, Lock_outcome}
-use Rattle.scfs_model.specs.SessionSteps.{Session_step, Session_outcome}
-use Rattle.scfs_model.specs.Steps.{Step, On_names, On_locks, On_sessions, Outcome, Of_names, Of_locks, Of_sessions}
-use Rattle.scfs_model.specs.Walks.{OrRefusal}
-use Rattle.scfs_model.specs.Told.{tells, told, untold, is_pending}
 use Rattle.scfs_model.specs.Next.{Goes_on}
 use Rattle.scfs_agent.specs.State.{AgentState, setup}
 use Rattle.scfs_agent.specs.Views.{asked_of, opening_of, reading_of, next_of, row_of, left_session, acked_of, upload_of, closed_of}
-use Rattle.scfs_agent.specs.Telling.{outcome_step}
 use Rattle.scfs_agent.specs.Outputs.{outputs_of}
 use Rattle.scfs_agent.specs.Keeping.{IsFetch}
 use Rattle.scfs_agent.specs.declared.types.Output.{Output}
@@ -59,7 +51,10 @@ module _ (old : AgentState) (fetch : Fetch) (is : IsFetch old.header.f fetch) (c
       else reads (setup old) rows old.no old.agent (opening_of fetch) Goes_on in
       ap (λ (x : Bool). either x (is_among cloud fetch.tracker.pieces)) mine ∙ ap (either true) none
 
-  module _ (new : AgentState) (tracker : Tracker) (step : ReadStep) (good : Bool) (counted : new ≡ record old { agent = tallied old.agent cloud good })
+  module _ (new : AgentState) (tracker : Tracker) (step : ReadStep) (good : Bool) (counted : new ≡ record old {
+    agent =
+        tallied old.agent cloud good;
+  })
       (after : tracker ≡ (heard fetch.tracker cloud answer).after) (steps : step ≡ (heard fetch.tracker cloud answer).step)
       (wants : good ≡ not (not (is_among cloud tracker.pieces))) where
     abbrev made : Tracker → ReadStep → Bool → Reaction Row
@@ -77,13 +72,21 @@ module _ (old : AgentState) (fetch : Fetch) (is : IsFetch old.header.f fetch) (c
     pub taken_gives : outputs_of new (reads (setup new) rows new.no new.agent (opening_of (record fetch { tracker = tracker })) (next_of step))
         ≡ outputs_of old (open_hears (setup old) rows old.no old.agent (opening_of fetch) cloud request answer)
     taken_gives =
-        ap (λ (v : AgentState). outputs_of v (reads (setup v) rows v.no v.agent (opening_of (record fetch { tracker = tracker })) (next_of step))) counted
+        ap (λ (v : AgentState). outputs_of v (reads (setup v) rows v.no v.agent (opening_of (record fetch { tracker = tracker })) (next_of step)))
+        counted
         ∙ ap (outputs_of old) taken
 
-    pub taken_after : ◌≡◌ {A = AgentState} (record new { agent = (reads (setup new) rows new.no new.agent (opening_of (record fetch { tracker = tracker })) (next_of step)).agent })
+    pub taken_after : ◌≡◌ {A =
+        AgentState} (record new {
+          agent =
+              (reads (setup new) rows new.no new.agent (opening_of (record fetch { tracker = tracker })) (next_of step)).agent;
+        })
         (record old { agent = (open_hears (setup old) rows old.no old.agent (opening_of fetch) cloud request answer).agent })
     taken_after =
-        ap (λ (v : AgentState). record v { agent = (reads (setup v) rows v.no v.agent (opening_of (record fetch { tracker = tracker })) (next_of step)).agent }) counted
+        ap (λ (v : AgentState). record v {
+          agent =
+              (reads (setup v) rows v.no v.agent (opening_of (record fetch { tracker = tracker })) (next_of step)).agent;
+        }) counted
         ∙ ap (λ (r : Reaction Row). record old { agent = r.agent }) taken
 
 -- an upload that begins
@@ -100,25 +103,39 @@ module _ (old : AgentState) (h : ℕ) (left : Ended) (row : VersionRow) (unit : 
       (record { number = h; session = left_session left; upload = None })
       (record { version = v; storing = record { name = name; unit = it; puts = asked; acked = acked; turns = 0 } }) clouds
 
-  begun_same : unit ≡ sealed (setup old) drawn left.contents → row_of row ≡ rows.closed (left_session left) drawn unit → puts ≡ [] → acks ≡ no_acks old.header.f 1
+  begun_same : unit ≡ sealed (setup old) drawn left.contents → row_of row ≡ rows.closed (left_session left) drawn unit → puts ≡ [] → acks
+      ≡ no_acks old.header.f 1
       → clouds ≡ below (3 * old.header.f + 1)
-      → asks_puts (setup old) old.no (record old.agent { waiting = Some For_close; uploads = old.agent.uploads + 1 }) (closed_of begun_upload) (upload_of begun_upload) clouds
-      ≡ begins (setup old) rows old.no (record old.agent { waiting = Some For_close }) (record { number = h; session = left_session left; upload = None })
+      → asks_puts (setup old) old.no (record old.agent {
+        waiting = Some For_close;
+        uploads =
+            old.agent.uploads + 1;
+      }) (closed_of begun_upload) (upload_of begun_upload) clouds
+      ≡ begins (setup old) rows old.no (record old.agent { waiting = Some For_close }) (record {
+        number = h;
+        session = left_session left;
+        upload =
+            None;
+      })
   begun_same sealed_is rowed no_puts none all =
       let it = sealed (setup old) drawn left.contents in
       ap (λ (v : Row). puts_of v (upload_name v.upload) unit (asked_of puts) (acked_of acks) clouds) rowed
       ∙ ap (λ (u : Sealed). puts_of (rows.closed (left_session left) drawn u) (upload_name drawn) u (asked_of puts) (acked_of acks) clouds) sealed_is
-      ∙ ap (λ (ps : List Asked). puts_of (rows.closed (left_session left) drawn it) (upload_name drawn) it (asked_of ps) (acked_of acks) clouds) no_puts
-      ∙ ap (λ (xs : List ℕ). puts_of (rows.closed (left_session left) drawn it) (upload_name drawn) it [] xs clouds) (ap acked_of none ∙ acked_none old.header.f)
+      ∙ ap (λ (ps : List Asked). puts_of (rows.closed (left_session left) drawn it) (upload_name drawn) it (asked_of ps) (acked_of acks) clouds)
+      no_puts
+      ∙ ap (λ (xs : List ℕ). puts_of (rows.closed (left_session left) drawn it) (upload_name drawn) it [] xs clouds) (ap acked_of none
+      ∙ acked_none old.header.f)
       ∙ ap (λ (cs : List ℕ). puts_of (rows.closed (left_session left) drawn it) (upload_name drawn) it [] [] cs) all
 
 -- an upload more is drawn
 abbrev pub drawn_by : AgentState → AgentState
 drawn_by v = record v { agent = record v.agent { uploads = v.agent.uploads + 1 } }
 
-module _ (old v : AgentState) (view_is : v ≡ old) (h : ℕ) (left : Ended) (row : VersionRow) (unit : Sealed) (puts : List Asked) (acks : Acks) (clouds : List ℕ)
+module _ (old v : AgentState) (view_is : v
+    ≡ old) (h : ℕ) (left : Ended) (row : VersionRow) (unit : Sealed) (puts : List Asked) (acks : Acks) (clouds : List ℕ)
     (sealed_is : unit ≡ sealed (setup old) (drawn old h left row unit puts acks clouds) left.contents)
-    (rowed : row_of row ≡ rows.closed (left_session left) (drawn old h left row unit puts acks clouds) unit) (no_puts : puts ≡ []) (none : acks ≡ no_acks old.header.f 1)
+    (rowed : row_of row ≡ rows.closed (left_session left) (drawn old h left row unit puts acks clouds) unit) (no_puts : puts ≡ []) (none : acks
+    ≡ no_acks old.header.f 1)
     (all : clouds ≡ below (3 * old.header.f + 1)) where
   abbrev upload : Upload
   upload = begun_upload old h left row unit puts acks clouds
@@ -127,7 +144,12 @@ module _ (old v : AgentState) (view_is : v ≡ old) (h : ℕ) (left : Ended) (ro
   put_by w = asks_puts (setup w) w.no (record w.agent { waiting = Some For_close }) (closed_of upload) (upload_of upload) clouds
 
   abbrev begun : Reaction Row
-  begun = begins (setup old) rows old.no (record old.agent { waiting = Some For_close }) (record { number = h; session = left_session left; upload = None })
+  begun = begins (setup old) rows old.no (record old.agent { waiting = Some For_close }) (record {
+    number = h;
+    session = left_session left;
+    upload =
+        None;
+  })
 
   pub begun_gives : outputs_of (drawn_by v) (put_by (drawn_by v)) ≡ outputs_of old begun
   begun_gives =
@@ -138,61 +160,3 @@ module _ (old v : AgentState) (view_is : v ≡ old) (h : ℕ) (left : Ended) (ro
   begun_after =
       ap (λ (w : AgentState). record (drawn_by w) { agent = (put_by (drawn_by w)).agent }) view_is
       ∙ ap (λ (r : Reaction Row). record old { agent = r.agent }) (begun_same old h left row unit puts acks clouds sealed_is rowed no_puts none all)
-
--- what was asked under a number is told
-module _ (old view : AgentState) (given : Given) (request : RequestNo) (o : Outcome Row) (left : view ≡ record old { agent = untold old.agent request })
-    (there : is_pending old.agent request ≡ true) where
-  told_same : told (setup old) rows old.no (untold old.agent request) given request o ≡ tells (setup old) rows old.no old.agent given request o
-  told_same =
-      ap (λ (b : Bool). if b then told (setup old) rows old.no (untold old.agent request) given request o else silent old.agent) (sym there)
-
-  pub told_gives : outputs_of view (told (setup view) rows view.no view.agent given request o)
-      ≡ outputs_of old (tells (setup old) rows old.no old.agent given request o)
-  told_gives =
-      ap (λ (v : AgentState). outputs_of v (told (setup v) rows v.no v.agent given request o)) left ∙ ap (outputs_of old) told_same
-
-  pub told_after : ◌≡◌ {A = AgentState} (record view { agent = (told (setup view) rows view.no view.agent given request o).agent })
-      (record old { agent = (tells (setup old) rows old.no old.agent given request o).agent })
-  told_after =
-      ap (λ (v : AgentState). record v { agent = (told (setup v) rows v.no v.agent given request o).agent }) left
-      ∙ ap (λ (r : Reaction Row). record old { agent = r.agent }) told_same
-
--- an outcome by the step that was asked
-abbrev OnNames : Step Row → Type 0
-OnNames (On_names x) = Unit {0}
-OnNames (On_locks x) = ⊥
-OnNames (On_sessions x) = ⊥
-
-abbrev OnLocks : Step Row → Type 0
-OnLocks (On_names x) = ⊥
-OnLocks (On_locks x) = Unit {0}
-OnLocks (On_sessions x) = ⊥
-
-abbrev OnSessions : Step Row → Type 0
-OnSessions (On_names x) = ⊥
-OnSessions (On_locks x) = ⊥
-OnSessions (On_sessions x) = Unit {0}
-
-abbrev session_in : Session_step Row → Step Row → Session_step Row
-session_in other (On_names x) = other
-session_in other (On_locks x) = other
-session_in other (On_sessions x) = x
-
-pub outcome_on_names : (P : Outcome Row → Type 0) → ((x : Name_step) (r : OrRefusal Name_outcome) → P (Of_names x r)) → (o : Outcome Row) (y : Name_step)
-    → outcome_step o ≡ On_names y → P o
-outcome_on_names P h (Of_names x r) y e = h x r
-outcome_on_names P h (Of_locks x r) y e = absurd (subst OnLocks e tt)
-outcome_on_names P h (Of_sessions x r) y e = absurd (subst OnSessions e tt)
-
-pub outcome_on_locks : (P : Outcome Row → Type 0) → ((x : Lock_step) (r : OrRefusal Lock_outcome) → P (Of_locks x r)) → (o : Outcome Row) (y : Lock_step)
-    → outcome_step o ≡ On_locks y → P o
-outcome_on_locks P h (Of_names x r) y e = absurd (subst OnNames e tt)
-outcome_on_locks P h (Of_locks x r) y e = h x r
-outcome_on_locks P h (Of_sessions x r) y e = absurd (subst OnSessions e tt)
-
-pub outcome_on_sessions : (P : Outcome Row → Type 0) (y : Session_step Row) → ((r : OrRefusal (Session_outcome Row)) → P (Of_sessions y r)) → (o : Outcome Row)
-    → outcome_step o ≡ On_sessions y → P o
-outcome_on_sessions P y h (Of_names x r) e = absurd (subst OnNames e tt)
-outcome_on_sessions P y h (Of_locks x r) e = absurd (subst OnLocks e tt)
-outcome_on_sessions P y h (Of_sessions x r) e =
-    let same : x ≡ y = ap (session_in y) e in subst (λ (z : Session_step Row). P (Of_sessions z r)) (sym same) (h r)

@@ -1,15 +1,19 @@
 -- What holds of every agent goes on to hold.
-use Rattle.std.proofs.Common.{◌≡◌, ℕ, ◌+◌, ◌*◌, ◌<◌, ◌≤◌, List, [], ◌∷◌, ◌++◌, map, Bool, true, false, cond, Option, Some, None, refl, sym, ap, ◌∙◌, subst, arith}
-use Rattle.std.specs.Prelude.{◌==◌, IfSome, if◌then◌else◌, is_some, remove}
+use Rattle.std.proofs.Common.{◌≡◌, ℕ, ◌+◌, ◌*◌, ◌<◌, ◌≤◌, List, [], ◌∷◌, ◌++◌, length, length-append, map, Bool, true, false, not, cond, Option, Some, None, refl, sym, ap, ◌∙◌, subst, inl, inr, arith}
+use Rattle.std.specs.Prelude.{◌==◌, nat_lt, filter, IfSome, if◌then◌else◌, remove}
 use Rattle.std.specs.List.{All}
 use Rattle.std.specs.Map.{set_value}
 use Rattle.std.specs.Ordering.{nat_cmp, match_ordering}
 use Rattle.std.specs.declared.cmp.Ordering.{Ordering}
 use Rattle.std.specs.declared.cmp.Ordering.TheVariants.{Less, Equal, Greater}
 use Rattle.std.specs.BTreeMap.{is_at}
-use Rattle.std.proofs.lemmas.List.Elements.{All-cons, All-head, All-tail, All-weaker, All-map, All-push}
-use Rattle.std.proofs.lemmas.List.{map-append}
+use Rattle.std.proofs.lemmas.List.Elements.{All-nil, All-cons, All-head, All-tail, All-weaker, All-map, All-push, All-append, All-filter}
+use Rattle.std.proofs.lemmas.List.Sums.{length-filter, count_by-le-length}
+use Rattle.std.proofs.lemmas.Bool.{lt-ltb, le-ltb, cases_order}
+use Rattle.std.proofs.lemmas.List.{map-append, length-map}
 use Rattle.std.proofs.lemmas.Map.Entries.{All-lookup}
+use Rattle.scfs_lease.specs.declared.leases.Lease.{Lease}
+use Rattle.scfs_lease.specs.Leases.{with_lease, without_lease, with_end, end_told, with_renewal, renewal_asked}
 use Rattle.scfs_policy.specs.declared.rank.RankFacts.{RankFacts}
 use Rattle.scfs_schedule.specs.declared.types.Refusal.{Refusal}
 use Rattle.scfs_session.specs.declared.sessions.Session.{Session}
@@ -17,15 +21,18 @@ use Rattle.scfs_session.specs.Open.{OpenSessions, session_of, opened, ended, cha
 use Rattle.scfs_model.specs.Opens.{one_more}
 use Rattle.scfs_schedule.specs.declared.types.Header.{Header}
 use Rattle.scfs_anchor.specs.Tree.{Each}
+use Rattle.scfs_schedule.specs.Grammar.{IsHeader}
 use Rattle.scfs_model.specs.Layers.{Row}
-use Rattle.scfs_model.specs.Agents.{Closed}
+use Rattle.scfs_model.specs.Lists.{below}
+use Rattle.scfs_model.specs.UnitFormat.{under}
+use Rattle.scfs_model.specs.Agents.{Closed, no_tallies}
 use Rattle.scfs_agent.specs.Asking.{MayUpload}
-use Rattle.scfs_agent.specs.Settled.{OneBegun}
 use Rattle.scfs_agent.specs.Views.{step_of, request_of, waiting_of, closed_in}
-use Rattle.scfs_agent.specs.Keeping.{HaveBases, AreTallies, HaveRoom, MayTurn, IsKept, IsWork, FitsAsking, calls_in, calls_of, is_call}
+use Rattle.scfs_agent.specs.Keeping.{HaveBases, AreLeases, AreTallies, HaveRoom, IsKept, IsWork, FitsAsking, calls_in, calls_of, is_call}
 use Rattle.scfs_agent.specs.declared.work.Pending.{Pending}
 use Rattle.scfs_agent.specs.declared.work.Work.{Work}
 use Rattle.scfs_agent.specs.declared.work.Work.TheVariants as works
+use Rattle.scfs_agent.proofs.CloudLists.{first_clouds, first_few}
 use Rattle.scfs_agent.proofs.PendingLemmas.{calls_push, All-remove}
 
 abbrev Based : ℕ × Session → Type 0
@@ -60,7 +67,8 @@ set_bases test [] y are base = are
 set_bases test (e ∷ es) y are base =
     set_by (test e.0) y e es (set_value test es y) are base (set_bases test es y (All-tail Based e es are) base)
 
-changed_by : (sessions : OpenSessions) (h end : ℕ) (change : List ℕ → List ℕ) (o : Option Session) → HaveBases sessions → IfSome o (λ y. y.base ≤ 1000000)
+changed_by : (sessions : OpenSessions) (h end : ℕ) (change : List ℕ → List ℕ) (o : Option Session) → HaveBases sessions
+    → IfSome o (λ y. y.base ≤ 1000000)
     → HaveBases (sessions_after sessions h (changed o end change))
 changed_by sessions h end change None are base = are
 changed_by sessions h end change (Some y) are base = by (change_refusal y end) where
@@ -76,7 +84,8 @@ changed_bases sessions h end change are =
 -- the version of a session
 pub left_base : (sessions : OpenSessions) (h : ℕ) (y : Session) → HaveBases sessions → session_of sessions h ≡ Some y → y.base ≤ 1000000
 left_base sessions h y are is =
-    subst (λ (o : Option Session). IfSome o (λ y. y.base ≤ 1000000)) is (All-lookup (λ (y : Session). y.base ≤ 1000000) (is_at (nat_cmp h)) sessions are)
+    subst (λ (o : Option Session). IfSome o (λ y. y.base ≤ 1000000)) is
+    (All-lookup (λ (y : Session). y.base ≤ 1000000) (is_at (nat_cmp h)) sessions are)
 
 -- the cloud of facts stays, and they count one answer more at most
 one_more_cloud : (c : ℕ) (good : Bool) (x : RankFacts) → (one_more c good x).cloud ≡ x.cloud
@@ -112,198 +121,134 @@ tallies_more f inputs c good tallies are room = record {
       (All-weaker (λ (x : RankFacts). (x.good + 1 ≤ inputs) × (x.bad + 1 ≤ inputs)) _ (λ x h. one_more_few inputs c good x h) tallies room);
 }
 
--- an agent with other work, sessions, tallies or steps that were asked
-module _ {header : Header} {no incarnation inputs requests opens files uploads : ℕ} {work : Work} {sessions : OpenSessions} {tallies : List RankFacts} {pending : List Pending}
-    (kept : IsKept header no incarnation inputs requests opens files uploads work sessions tallies pending) where
+-- an agent without its lock of a session, with a new one, or with other ends
+abbrev Numbered : Lease → Type 0
+Numbered l = 1 ≤ l.session
+
+pub unleased_are : (most h : ℕ) (leases : List Lease) → AreLeases most leases → AreLeases most (without_lease h leases)
+unleased_are most h leases are =
+    let test : Lease → Bool = λ l. not (l.session == h) in
+    let fewer : length (filter test leases) ≤ length leases = rw (length-filter test leases) (count_by-le-length test leases) in
+    record { few = omega (arith, are.few, fewer); numbered = All-filter test Numbered leases are.numbered }
+
+beside : (h : ℕ) (leases : List Lease)
+    → length (filter (λ (l : Lease). nat_lt l.session h) leases) + length (filter (λ (l : Lease). nat_lt h l.session) leases) ≤ length leases
+beside h [] = omega arith
+beside h (l ∷ leases) =
+    let rest = beside h leases in
+    elim (cases_order l.session h) [
+      | inl same ↦ rw (le-ltb l.session h (omega arith), le-ltb h l.session (omega arith)) (omega arith)
+      | inr (inl less) ↦ rw (lt-ltb l.session h less, le-ltb h l.session (omega arith)) (omega arith)
+      | inr (inr more) ↦ rw (le-ltb l.session h (omega arith), lt-ltb h l.session more) (omega arith)
+    ]
+
+pub leased_are : (most h until : ℕ) (leases : List Lease) → 1 ≤ h → length leases + 1 ≤ most → AreLeases most leases
+    → AreLeases most (with_lease (record { session = h; until = until; asked = false }) leases)
+leased_are most h until leases first room are =
+    let below : Lease → Bool = λ l. nat_lt l.session h in
+    let above : Lease → Bool = λ l. nat_lt h l.session in
+    let x : Lease = record { session = h; until = until; asked = false } in
+    record {
+      few = rw (length-append (filter below leases) (x ∷ filter above leases)) (omega (arith, beside h leases, room));
+      numbered =
+          All-append Numbered (filter below leases) (x ∷ filter above leases) (All-filter below Numbered leases are.numbered)
+          (All-cons Numbered x (filter above leases) first (All-filter above Numbered leases are.numbered));
+    }
+
+changed_are : (most : ℕ) (f : Lease → Lease) → ((l : Lease) → (f l).session ≡ l.session) → (leases : List Lease) → AreLeases most leases
+    → AreLeases most (map f leases)
+changed_are most f same leases are = record {
+  few = rw (length-map leases f) are.few;
+  numbered = All-map Numbered f leases (All-weaker Numbered (λ l. Numbered (f l)) (λ l first. omega (arith, same l, first)) leases are.numbered);
+}
+
+by_session : (h : ℕ) (other l : Lease) → other.session ≡ l.session → (if l.session == h then other else l).session ≡ l.session
+by_session h other l same = elim (l.session == h) as (λ b. (if b then other else l).session ≡ l.session) [ true ↦ same | false ↦ refl ]
+
+pub ended_are : (most h until : ℕ) (leases : List Lease) → AreLeases most leases → AreLeases most (with_end h until leases)
+ended_are most h until = changed_are most (end_told h until) (λ l. by_session h (record l { until = until; asked = false }) l refl)
+
+pub renewal_are : (most h : ℕ) (leases : List Lease) → AreLeases most leases → AreLeases most (with_renewal h leases)
+renewal_are most h = changed_are most (renewal_asked h) (λ l. by_session h (record l { asked = true }) l refl)
+
+-- an agent with no sessions, and no clouds counted
+pub kept_none : (header : Header) (no incarnation inputs requests opens files uploads : ℕ) (work : Work) (sessions : OpenSessions)
+    (leases : List Lease) (tallies : List RankFacts)
+    (pending : List Pending) → IsHeader header → no < length header.agents → inputs ≤ 1000000 → incarnation ≤ inputs → requests ≤ 2000000 * inputs
+    → opens ≤ inputs
+    → files ≤ inputs → uploads ≤ inputs → IsWork no incarnation header.f inputs work → sessions ≡ [] → leases ≡ [] → tallies
+    ≡ no_tallies (under header) → pending ≡ []
+    → IsKept header no incarnation inputs requests opens files uploads work sessions leases tallies pending
+kept_none header a incarnation inputs requests opens files uploads work sessions leases tallies pending is member counted started drawn opened made
+    begun working s l t p =
+    let clouds = below (3 * header.f + 1) in
+    let bases : HaveBases sessions = subst HaveBases (sym s) (All-nil Based) in
+    let leased : AreLeases inputs leases = subst (AreLeases inputs) (sym l) (record { few = omega arith; numbered = All-nil Numbered }) in
+    let tallied : AreTallies header.f inputs tallies =
+    subst (AreTallies header.f inputs) (sym t) (record { clouds = first_clouds clouds; few = first_few inputs clouds }) in
+    let fitting : All (λ (x : Pending). FitsAsking x.asking) pending =
+    subst (All (λ (x : Pending). FitsAsking x.asking)) (sym p) (All-nil (λ (x : Pending). FitsAsking x.asking)) in
+    let waits : calls_in (map request_of pending) ≤ calls_of (waiting_of work) =
+    omega (arith, ap (λ (xs : List Pending). calls_in (map request_of xs)) p) in
+    assumption (is, member, counted, started, drawn, opened, made, begun, working, bases, leased, tallied, fitting, waits)
+
+-- an agent with other work, sessions, leases, tallies or steps that were asked
+module _ {header : Header} {no incarnation inputs requests opens files uploads : ℕ} {work : Work} {sessions : OpenSessions} {leases : List Lease}
+    {tallies : List RankFacts}
+    {pending : List Pending} (kept : IsKept header no incarnation inputs requests opens files uploads work sessions leases tallies pending) where
   pub kept_idle : (others : OpenSessions) → HaveBases others → calls_in (map request_of pending) ≡ 0
-      → IsKept header no incarnation inputs requests opens files uploads works.Idle others tallies pending
-  kept_idle others bases none = record {
-    is_header = kept.is_header;
-    member = kept.member;
-    incarnations = kept.incarnations;
-    counted = kept.counted;
-    drawn = kept.drawn;
-    opened = kept.opened;
-    made = kept.made;
-    begun = kept.begun;
-    working = tt;
-    bases = bases;
-    tallied = kept.tallied;
-    waits = omega (arith, none);
-    fitting = kept.fitting;
-  }
+      → IsKept header no incarnation inputs requests opens files uploads works.Idle others leases tallies pending
+  kept_idle others bases none =
+      let waits : calls_in (map request_of pending) ≤ 0 = omega (arith, none) in
+      assumption (kept, bases, waits)
 
   pub kept_sessions : (others : OpenSessions) → HaveBases others
-      → IsKept header no incarnation inputs requests opens files uploads work others tallies pending
-  kept_sessions others bases = record {
-    is_header = kept.is_header;
-    member = kept.member;
-    incarnations = kept.incarnations;
-    counted = kept.counted;
-    drawn = kept.drawn;
-    opened = kept.opened;
-    made = kept.made;
-    begun = kept.begun;
-    working = kept.working;
-    bases = bases;
-    tallied = kept.tallied;
-    waits = kept.waits;
-    fitting = kept.fitting;
-  }
+      → IsKept header no incarnation inputs requests opens files uploads work others leases tallies pending
+  kept_sessions others bases = assumption (kept, bases)
+
+  pub kept_leases : (others : List Lease) → AreLeases inputs others
+      → IsKept header no incarnation inputs requests opens files uploads work sessions others tallies pending
+  kept_leases others are = assumption (kept, are)
 
   pub kept_tallies : (others : List RankFacts) → AreTallies header.f inputs others
-      → IsKept header no incarnation inputs requests opens files uploads work sessions others pending
-  kept_tallies others are = record {
-    is_header = kept.is_header;
-    member = kept.member;
-    incarnations = kept.incarnations;
-    counted = kept.counted;
-    drawn = kept.drawn;
-    opened = kept.opened;
-    made = kept.made;
-    begun = kept.begun;
-    working = kept.working;
-    bases = kept.bases;
-    tallied = are;
-    waits = kept.waits;
-    fitting = kept.fitting;
-  }
+      → IsKept header no incarnation inputs requests opens files uploads work sessions leases others pending
+  kept_tallies others are = assumption (kept, are)
 
   -- with further requests, for this work
-  pub kept_work : (drawn : ℕ) (other : Work) → drawn ≤ 32 * inputs → IsWork no incarnation header.f inputs other → calls_in (map request_of pending) ≡ 0
-      → IsKept header no incarnation inputs drawn opens files uploads other sessions tallies pending
-  kept_work drawn other few is none = record {
-    is_header = kept.is_header;
-    member = kept.member;
-    incarnations = kept.incarnations;
-    counted = kept.counted;
-    drawn = few;
-    opened = kept.opened;
-    made = kept.made;
-    begun = kept.begun;
-    working = is;
-    bases = kept.bases;
-    tallied = kept.tallied;
-    waits = omega (arith, none);
-    fitting = kept.fitting;
-  }
+  pub kept_work : (drawn : ℕ) (other : Work) → drawn ≤ 2000000 * inputs → IsWork no incarnation header.f inputs other
+      → calls_in (map request_of pending) ≡ 0
+      → IsKept header no incarnation inputs drawn opens files uploads other sessions leases tallies pending
+  kept_work drawn other few is none =
+      let waits : calls_in (map request_of pending) ≤ calls_of (waiting_of other) = omega (arith, none) in
+      assumption (kept, few, is, waits)
 
   -- a step more is asked
-  pub kept_asked : (x : Pending) (all : List Pending) → all ≡ pending ++ x ∷ [] → requests + 1 ≤ 32 * inputs → FitsAsking x.asking
+  pub kept_asked : (x : Pending) (all : List Pending) → all ≡ pending ++ x ∷ [] → requests + 1 ≤ 2000000 * inputs → FitsAsking x.asking
       → calls_in (map request_of pending) + cond (is_call (step_of x.asking)) 1 0 ≤ calls_of (waiting_of work)
-      → IsKept header no incarnation inputs (requests + 1) opens files uploads work sessions tallies all
-  kept_asked x all joined few fits calls = record {
-    is_header = kept.is_header;
-    member = kept.member;
-    incarnations = kept.incarnations;
-    counted = kept.counted;
-    drawn = few;
-    opened = kept.opened;
-    made = kept.made;
-    begun = kept.begun;
-    working = kept.working;
-    bases = kept.bases;
-    tallied = kept.tallied;
-    waits =
-        let more : calls_in (map request_of all) ≡ calls_in (map request_of pending) + cond (is_call (step_of x.asking)) 1 0 =
-        ap (λ (xs : List Pending). calls_in (map request_of xs)) joined ∙ ap calls_in (map-append request_of pending (x ∷ []))
-        ∙ calls_push (map request_of pending) (request_of x) in
-        omega (arith, more, calls);
-    fitting = subst (All (λ (y : Pending). FitsAsking y.asking)) (sym joined) (All-push (λ (y : Pending). FitsAsking y.asking) pending x kept.fitting fits);
-  }
+      → IsKept header no incarnation inputs (requests + 1) opens files uploads work sessions leases tallies all
+  kept_asked x all joined few fits calls =
+      let more : calls_in (map request_of all) ≡ calls_in (map request_of pending) + cond (is_call (step_of x.asking)) 1 0 =
+      ap (λ (xs : List Pending). calls_in (map request_of xs)) joined ∙ ap calls_in (map-append request_of pending (x ∷ []))
+      ∙ calls_push (map request_of pending) (request_of x) in
+      let waits : calls_in (map request_of all) ≤ calls_of (waiting_of work) = omega (arith, more, calls) in
+      let fitting : All (λ (y : Pending). FitsAsking y.asking) all =
+      subst (All (λ (y : Pending). FitsAsking y.asking)) (sym joined) (All-push (λ (y : Pending). FitsAsking y.asking) pending x kept.fitting fits) in
+      assumption (kept, few, waits, fitting)
 
   -- a step is told
   pub kept_told : (at : ℕ) (rest : List Pending) → rest ≡ remove pending at → calls_in (map request_of rest) ≤ calls_of (waiting_of work)
-      → IsKept header no incarnation inputs requests opens files uploads work sessions tallies rest
-  kept_told at rest left calls = record {
-    is_header = kept.is_header;
-    member = kept.member;
-    incarnations = kept.incarnations;
-    counted = kept.counted;
-    drawn = kept.drawn;
-    opened = kept.opened;
-    made = kept.made;
-    begun = kept.begun;
-    working = kept.working;
-    bases = kept.bases;
-    tallied = kept.tallied;
-    waits = calls;
-    fitting = subst (All (λ (y : Pending). FitsAsking y.asking)) (sym left) (All-remove (λ (y : Pending). FitsAsking y.asking) pending at kept.fitting);
-  }
-
-  counted_work : (w : Work) → IsWork no incarnation header.f inputs w → IsWork no incarnation header.f (inputs + 1) w
-  counted_work works.Idle is = tt
-  counted_work works.Step is = tt
-  counted_work (works.Fetch fetch) is = is
-  counted_work (works.Upload upload) is =
-      record { acks = is.acks; part = is.part; counted = is.counted; turns = omega (arith, is.turns); closes = is.closes }
-
-  -- an input more
-  pub kept_counted : inputs < 1000000 → IsKept header no incarnation (inputs + 1) requests opens files uploads work sessions tallies pending
-  kept_counted room = record {
-    is_header = kept.is_header;
-    member = kept.member;
-    incarnations = kept.incarnations;
-    counted = omega (arith, room);
-    drawn = omega (arith, kept.drawn);
-    opened = omega (arith, kept.opened);
-    made = omega (arith, kept.made);
-    begun = omega (arith, kept.begun);
-    working = counted_work work kept.working;
-    bases = kept.bases;
-    tallied = record {
-      clouds = kept.tallied.clouds;
-      few =
-          All-weaker (λ (x : RankFacts). (x.good ≤ inputs) × (x.bad ≤ inputs)) (λ (x : RankFacts). (x.good ≤ inputs + 1) × (x.bad ≤ inputs + 1))
-          (λ x h. (omega (arith, h.0), omega (arith, h.1))) tallies kept.tallied.few;
-    };
-    waits = kept.waits;
-    fitting = kept.fitting;
-  }
-
-  may_turn : (w : Work) → IsWork no incarnation header.f inputs w → MayTurn (inputs + 1) (closed_in w)
-  may_turn works.Idle is = tt
-  may_turn works.Step is = tt
-  may_turn (works.Fetch fetch) is = tt
-  may_turn (works.Upload upload) is = omega (arith, is.turns)
-
-  pub turns_counted : MayTurn (inputs + 1) (closed_in work)
-  turns_counted = may_turn work kept.working
-
-  pub room_counted : HaveRoom (inputs + 1) tallies
-  room_counted =
-      All-weaker (λ (x : RankFacts). (x.good ≤ inputs) × (x.bad ≤ inputs)) (λ (x : RankFacts). (x.good + 1 ≤ inputs + 1) × (x.bad + 1 ≤ inputs + 1))
-      (λ x h. (omega (arith, h.0), omega (arith, h.1))) tallies kept.tallied.few
+      → IsKept header no incarnation inputs requests opens files uploads work sessions leases tallies rest
+  kept_told at rest left calls =
+      let fitting : All (λ (y : Pending). FitsAsking y.asking) rest =
+      subst (All (λ (y : Pending). FitsAsking y.asking)) (sym left) (All-remove (λ (y : Pending). FitsAsking y.asking) pending at kept.fitting) in
+      assumption (kept, calls, fitting)
 
 -- what it uploads may be completed
 pub closes_in : (a incarnation f inputs : ℕ) (w : Work) → IsWork a incarnation f inputs w
     → Each (λ (x : Closed Row). MayUpload a incarnation x.upload) (closed_in w)
+closes_in a incarnation f inputs works.Down is = tt
+closes_in a incarnation f inputs works.Starting is = tt
 closes_in a incarnation f inputs works.Idle is = tt
 closes_in a incarnation f inputs works.Step is = tt
 closes_in a incarnation f inputs (works.Fetch fetch) is = tt
 closes_in a incarnation f inputs (works.Upload upload) is = (is.closes, tt)
-
--- an agent whose calls are all answered
-pub calls_none : (w : Work) → is_some (waiting_of w) ≡ false → calls_of (waiting_of w) ≡ 0
-calls_none works.Idle e = refl
-calls_none works.Step e = cc
-calls_none (works.Fetch fetch) e = cc
-calls_none (works.Upload upload) e = cc
-
-pub closed_none : (w : Work) → is_some (waiting_of w) ≡ false → closed_in w ≡ []
-closed_none works.Idle e = refl
-closed_none works.Step e = cc
-closed_none (works.Fetch fetch) e = cc
-closed_none (works.Upload upload) e = cc
-
-pub waiting_none : (w : Work) → is_some (waiting_of w) ≡ false → waiting_of w ≡ None
-waiting_none works.Idle e = refl
-waiting_none works.Step e = cc
-waiting_none (works.Fetch fetch) e = cc
-waiting_none (works.Upload upload) e = cc
-
-pub one_closed : (w : Work) → OneBegun (closed_in w)
-one_closed works.Idle = tt
-one_closed works.Step = tt
-one_closed (works.Fetch fetch) = tt
-one_closed (works.Upload upload) = refl

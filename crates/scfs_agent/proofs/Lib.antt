@@ -1,3 +1,6 @@
+pub mod Doing
+pub mod RenewalLemmas
+pub mod LeaseLemmas
 pub mod CloudLists
 pub mod CodeOrder
 pub mod ReadingLemmas
@@ -10,8 +13,6 @@ pub mod ToldLemmas
 pub mod HandingLemmas
 pub mod ReactedLemmas
 pub mod RankLemmas
-pub mod UploadLemmas
-pub mod WorkLemmas
 pub mod FitAskedLemmas
 pub mod ObeyLemmas
 pub mod CallLemmas

@@ -2,19 +2,23 @@
 use Rattle.std.proofs.Common.{◌≡◌, ℕ, ◌+◌, ◌≤◌, zero, suc, List, [], ◌∷◌, ◌++◌, length, map, take, drop, Bool, true, false, cond, Option, Some, None, refl, sym, ap, ◌∙◌, subst, arith}
 use Rattle.std.specs.Prelude.{◌||◌, if◌then◌else◌, find, is_some, remove, slice_get}
 use Rattle.std.specs.List.{All, list_any}
+use Rattle.std.proofs.lemmas.List.{length-map}
 use Rattle.std.proofs.lemmas.List.Elements.{All-head, All-tail, All-append, All-take, All-drop}
 use Rattle.scfs_base.specs.declared.naming.RequestNo.{RequestNo}
 use Rattle.scfs_model.specs.Lists.{without_first}
 use Rattle.scfs_model.specs.Layers.{Row, rows}
 use Rattle.scfs_model.specs.Given.{Given}
-use Rattle.scfs_model.specs.Steps.{Step, Outcome}
-use Rattle.scfs_model.specs.Agents.{Request, Reaction, silent}
-use Rattle.scfs_model.specs.Told.{tells, told, untold, is_pending}
+use Rattle.scfs_model.specs.Steps.{Outcome}
+use Rattle.scfs_model.specs.Agents.{Request, silent}
+use Rattle.scfs_model.specs.Told.{tells, told, untold}
 use Rattle.scfs_agent.specs.State.{AgentState, setup}
-use Rattle.scfs_agent.specs.Outputs.{outputs_of}
-use Rattle.scfs_agent.specs.Views.{request_of, step_of, waiting_of, closed_in}
+use Rattle.scfs_agent.specs.Views.{request_of, step_of, waiting_of}
 use Rattle.scfs_agent.specs.Keeping.{is_call, calls_in, calls_of}
-use Rattle.scfs_agent.specs.Telling.{first_place, is_numbered, pending_step, IsIts}
+use Rattle.scfs_tuples.specs.declared.types.Reply.{Reply}
+use Rattle.scfs_anchor.specs.StepReplies.{IsReplyTo, FitsOutcome}
+use Rattle.scfs_agent.specs.Telling.{first_place, is_numbered, pending_step, outcome_step, IsTold, IsIts}
+use Rattle.scfs_agent.specs.declared.types.Output.{Output}
+use Rattle.scfs_agent.proofs.Doing.{did}
 use Rattle.scfs_agent.specs.declared.work.Pending.{Pending}
 use Rattle.scfs_agent.specs.declared.work.Work.{Work}
 use Rattle.scfs_agent.specs.declared.work.Work.TheVariants as works
@@ -50,7 +54,8 @@ module _ (request : RequestNo) where
   abbrev test : Request Row → Bool
   test = is_numbered request
 
-  any_by : (b : Bool) (x : Request Row) (any : Bool) (found : Option (Request Row)) → any ≡ is_some found → (b || any) ≡ is_some (cond b (Some x) found)
+  any_by : (b : Bool) (x : Request Row) (any : Bool) (found : Option (Request Row)) → any ≡ is_some found → (b || any)
+      ≡ is_some (cond b (Some x) found)
   any_by true x any found e = refl
   any_by false x any found e = e
 
@@ -101,10 +106,6 @@ module _ (request : RequestNo) where
       → pending_step (map request_of xs) request ≡ Some (request_of x)
   taken_found xs at x place is = (taken xs at x (sym place) is).found
 
-  pub taken_left : (xs : List Pending) (at : ℕ) (x : Pending) → at ≡ first_place test (map request_of xs) → slice_get xs at ≡ Some x
-      → map request_of (remove xs at) ≡ without_first test (map request_of xs)
-  taken_left xs at x place is = (taken xs at x (sym place) is).left
-
   calls_by : (b : Bool) (y : Request Row) (ys : List (Request Row)) (x : Request Row) → cond b (Some y) (find test ys) ≡ Some x
       → (find test ys ≡ Some x → calls_in (without_first test ys) + cond (is_call x.step) 1 0 ≡ calls_in ys)
       → calls_in (if b then ys else y ∷ without_first test ys) + cond (is_call x.step) 1 0 ≡ cond (is_call y.step) 1 0 + calls_in ys
@@ -120,80 +121,87 @@ module _ (request : RequestNo) where
   calls_left [] x e = cc
   calls_left (y ∷ ys) x e = calls_by (test y) y ys x e (calls_left ys x)
 
--- where a call waits for a step, nothing is uploaded
-closed_by_call : (w : Work) (n : ℕ) → n + 1 ≤ calls_of (waiting_of w) → closed_in w ≡ []
-closed_by_call works.Idle n l = refl
-closed_by_call works.Step n l = refl
-closed_by_call (works.Fetch fetch) n l = refl
-closed_by_call (works.Upload upload) n l = absurd (omega (arith, l))
+-- a call waits for a step where one was asked for it, and for no other
+step_by_call : (w : Work) (n : ℕ) → n + 1 ≤ calls_of (waiting_of w) → (w ≡ works.Step) × (n ≡ 0)
+step_by_call works.Down n l = absurd (omega (arith, l))
+step_by_call works.Starting n l = absurd (omega (arith, l))
+step_by_call works.Idle n l = absurd (omega (arith, l))
+step_by_call works.Step n l = (refl, omega (arith, l))
+step_by_call (works.Fetch fetch) n l = absurd (omega (arith, l))
+step_by_call (works.Upload upload) n l = absurd (omega (arith, l))
 
-no_other_call : (w : Work) (n : ℕ) → n + 1 ≤ calls_of (waiting_of w) → n ≡ 0
-no_other_call works.Idle n l = absurd (omega (arith, l))
-no_other_call works.Step n l = omega (arith, l)
-no_other_call (works.Fetch fetch) n l = absurd (omega (arith, l))
-no_other_call (works.Upload upload) n l = absurd (omega (arith, l))
+-- what is pending, by its place
+module _ (request : RequestNo) (pending slice : List Pending) (at : ℕ) (same : slice ≡ pending) (place : at
+    ≡ first_place (is_numbered request) (map request_of slice)) where
+  place_is : first_place (is_numbered request) (map request_of pending) ≡ at
+  place_is = ap (λ (xs : List Pending). first_place (is_numbered request) (map request_of xs)) (sym same) ∙ sym place
 
--- the calls among the steps that are left when one is told
-module _ (request : RequestNo) (pending : List Pending) (at : ℕ) (x : Pending) (rest : List Pending)
-    (place : at ≡ first_place (is_numbered request) (map request_of pending)) (is : slice_get pending at ≡ Some x) (left : rest ≡ remove pending at)
-    (w : Work) (few : calls_in (map request_of pending) ≤ calls_of (waiting_of w)) where
-  calls_told : calls_in (map request_of rest) + cond (is_call (step_of x.asking)) 1 0 ≡ calls_in (map request_of pending)
-  calls_told =
-      let more : List (Request Row) → ℕ = λ xs. calls_in xs + cond (is_call (step_of x.asking)) 1 0 in
-      ap (λ (xs : List Pending). more (map request_of xs)) left ∙ ap more (taken_left request pending at x place is)
-      ∙ calls_left request (map request_of pending) (request_of x) (taken_found request pending at x place is)
+  module _ (old v : AgentState) (view_is : v ≡ old) (here : v.agent.pending ≡ map request_of pending) where
+    before : pending_step old.agent.pending request ≡ pending_step (map request_of pending) request
+    before = ap (λ (a : AgentState). pending_step a.agent.pending request) (sym view_is)
+        ∙ ap (λ (ps : List (Request Row)). pending_step ps request) here
 
-  pub fewer_calls : calls_in (map request_of rest) ≤ calls_of (waiting_of w)
-  fewer_calls = omega (arith, calls_told, few)
+    pub none_there : at ≡ length pending → pending_step old.agent.pending request ≡ None
+    none_there behind = before ∙ none_pending request (map request_of pending) (place_is ∙ behind ∙ sym (length-map pending request_of))
 
-  one_told : is_call (step_of x.asking) ≡ true → calls_in (map request_of rest) + 1 ≤ calls_of (waiting_of w)
-  one_told call =
-      let one : calls_in (map request_of rest) + 1 ≡ calls_in (map request_of pending) =
-      ap (λ (b : Bool). calls_in (map request_of rest) + cond b 1 0) (sym call) ∙ calls_told in
-      omega (arith, one, few)
+    pub asked_there : (x : Pending) → slice_get pending at ≡ Some x → pending_step old.agent.pending request ≡ Some (request_of x)
+    asked_there x is = before ∙ (taken request pending at x place_is is).found
 
-  -- once the step of a call is told, nothing is uploaded and no other call waits
-  pub closed_then : is_call (step_of x.asking) ≡ true → closed_in w ≡ []
-  closed_then call = closed_by_call w (calls_in (map request_of rest)) (one_told call)
+    -- where none was asked under the number, nothing is told
+    pub untold_did : (given : Given) (o : Outcome Row) → at ≡ length pending
+        → did old (silent old.agent) ≡ did old (tells (setup old) rows old.no old.agent given request o)
+    untold_did given o behind =
+        ap (λ (b : Bool). did old (if b then told (setup old) rows old.no (untold old.agent request) given request o else silent old.agent))
+        (sym (any_found request old.agent.pending ∙ ap (λ (p : Option (Request Row)). is_some p) (none_there behind)))
 
-  pub none_then : is_call (step_of x.asking) ≡ true → calls_in (map request_of rest) ≡ 0
-  none_then call = no_other_call w (calls_in (map request_of rest)) (one_told call)
+  -- it is taken from its place, to be told
+  module _ (x : Pending) (is : slice_get pending at ≡ Some x) (rest : List Pending) (left : rest ≡ remove pending at) where
+    rest_is : map request_of rest ≡ without_first (is_numbered request) (map request_of pending)
+    rest_is = ap (λ (xs : List Pending). map request_of xs) left ∙ (taken request pending at x place_is is).left
 
--- where none was asked under the number, nothing is told
-module _ (old : AgentState) (given : Given) (request : RequestNo) (o : Outcome Row) (none : pending_step old.agent.pending request ≡ None) where
-  untold_same : tells (setup old) rows old.no old.agent given request o ≡ silent old.agent
-  untold_same =
-      ap (λ (b : Bool). if b then told (setup old) rows old.no (untold old.agent request) given request o else silent old.agent)
-      (any_found request old.agent.pending ∙ ap (λ (p : Option (Request Row)). is_some p) none)
+    module _ (w : Work) (few : calls_in (map request_of pending) ≤ calls_of (waiting_of w)) where
+      calls_told : calls_in (map request_of rest) + cond (is_call (step_of x.asking)) 1 0 ≡ calls_in (map request_of pending)
+      calls_told =
+          ap (λ (xs : List (Request Row)). calls_in xs + cond (is_call (step_of x.asking)) 1 0) rest_is
+          ∙ calls_left request (map request_of pending) (request_of x) (taken request pending at x place_is is).found
 
-  pub untold_gives : [] ≡ outputs_of old (tells (setup old) rows old.no old.agent given request o)
-  untold_gives = ap (outputs_of old) (sym untold_same)
+      pub fewer_calls : calls_in (map request_of rest) ≤ calls_of (waiting_of w)
+      fewer_calls = omega (arith, calls_told, few)
 
-  pub untold_after : old ≡ record old { agent = (tells (setup old) rows old.no old.agent given request o).agent }
-  untold_after = ap (λ (r : Reaction Row). record old { agent = r.agent }) (sym untold_same)
+      -- once the step of a call is told, no other call waits
+      pub step_then : is_call (step_of x.asking) ≡ true → (w ≡ works.Step) × (calls_in (map request_of rest) ≡ 0)
+      step_then call =
+          let one : calls_in (map request_of rest) + 1 ≡ calls_in (map request_of pending) =
+          ap (λ (b : Bool). calls_in (map request_of rest) + cond b 1 0) (sym call) ∙ calls_told in
+          step_by_call w (calls_in (map request_of rest)) (omega (arith, one, few))
 
--- what stands at its place, said of the agent before that is taken out
-module _ (old v : AgentState) (view_is : v ≡ old) (request : RequestNo) (pending : List Pending) (here : v.agent.pending ≡ map request_of pending) (at : ℕ)
-    (x : Pending) (rest : List Pending) (place : at ≡ first_place (is_numbered request) (map request_of pending)) (is : slice_get pending at ≡ Some x)
-    (left : rest ≡ remove pending at) where
-  asked_before : pending_step old.agent.pending request ≡ Some (request_of x)
-  asked_before =
-      ap (λ (a : AgentState). pending_step a.agent.pending request) (sym view_is) ∙ ap (λ (ps : List (Request Row)). pending_step ps request) here
-      ∙ taken_found request pending at x place is
+    -- said of the agent before
+    module _ (old v : AgentState) (view_is : v ≡ old) (here : v.agent.pending ≡ map request_of pending) where
+      pub found_there : (P : Option (Request Row) → Type 0) → P (pending_step old.agent.pending request) → P (Some (request_of x))
+      found_there P h = subst P (asked_there old v view_is here x is) h
 
-  pub is_there : is_pending old.agent request ≡ true
-  is_there = any_found request old.agent.pending ∙ ap (λ (p : Option (Request Row)). is_some p) asked_before
+      abbrev view : AgentState
+      view = record v { agent = record v.agent { pending = map request_of rest } }
 
-  pub left_before : ◌≡◌ {A = AgentState} (record v { agent = record v.agent { pending = map request_of rest } }) (record old { agent = untold old.agent request })
-  left_before =
-      ap (λ (a : AgentState). record a { agent = record a.agent { pending = map request_of rest } }) view_is
-      ∙ ap (λ (ps : List (Request Row)). record old { agent = record old.agent { pending = ps } })
-      (ap (λ (xs : List Pending). map request_of xs) left ∙ taken_left request pending at x place is
-      ∙ ap (λ (ps : List (Request Row)). without_first (is_numbered request) ps) (sym here)
-      ∙ ap (λ (a : AgentState). without_first (is_numbered request) a.agent.pending) view_is)
+      left_before : view ≡ record old { agent = untold old.agent request }
+      left_before =
+          ap (λ (ps : List (Request Row)). record v { agent = record v.agent { pending = ps } })
+          (rest_is ∙ ap (λ (ps : List (Request Row)). without_first (is_numbered request) ps) (sym here))
+          ∙ ap (λ (a : AgentState). record a { agent = untold a.agent request }) view_is
 
-  pub step_told : (step : Step Row) → IsIts (pending_step old.agent.pending request) step → step_of x.asking ≡ step
-  step_told step its = subst (λ (p : Option (Request Row)). IsIts p step) asked_before its
+      told_did : (given : Given) (o : Outcome Row)
+          → did view (told (setup view) rows view.no view.agent given request o) ≡ did old (tells (setup old) rows old.no old.agent given request o)
+      told_did given o =
+          ap (λ (a : AgentState). did a (told (setup a) rows a.no a.agent given request o)) left_before
+          ∙ ap (λ (b : Bool). did old (if b then told (setup old) rows old.no (untold old.agent request) given request o else silent old.agent))
+          (sym (any_found request old.agent.pending ∙ ap (λ (p : Option (Request Row)). is_some p) (asked_there old v view_is here x is)))
 
-  pub found_there : (P : Option (Request Row) → Type 0) → P (pending_step old.agent.pending request) → P (Some (request_of x))
-  found_there P h = subst P asked_before h
+      pub told_then : (given : Given) (reply : Reply) (P : List Output × AgentState → Type 0)
+          → ((o : Outcome Row) → outcome_step o ≡ step_of x.asking → IsReplyTo view.header.lease request o reply → FitsOutcome o
+          → P (did view (told (setup view) rows view.no view.agent given request o)))
+          → (o : Outcome Row) → IsTold old.header.lease old.agent.pending request reply o
+          → P (did old (tells (setup old) rows old.no old.agent given request o))
+      told_then given reply P each o is =
+          subst P (told_did given o)
+          (each o (sym (found_there (λ p. IsIts p (outcome_step o)) is.asked))
+          (subst (λ (a : AgentState). IsReplyTo a.header.lease request o reply) (sym view_is) is.replied) is.fits)

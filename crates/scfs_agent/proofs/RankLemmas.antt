@@ -1,5 +1,5 @@
 -- What the rank rule is asked and answers when an agent is told what its step came to.
-use Rattle.std.proofs.Common.{◌≡◌, ℕ, List, [], ◌∷◌, ◌++◌, Bool, true, false, cond, Option, Some, None, Ok, Err, refl, sym, ap, ◌∙◌, subst, length, map, slice_get}
+use Rattle.std.proofs.Common.{◌≡◌, ℕ, List, [], ◌∷◌, ◌++◌, Bool, true, false, cond, Option, Some, None, Ok, Err, refl, sym, ap, ◌∙◌, subst}
 use Rattle.std.specs.Prelude.{◌==◌, ◌&&◌, not, is_some, if◌then◌else◌, option_map}
 use Rattle.std.proofs.lemmas.List.{append-nil}
 use Rattle.scfs_base.specs.declared.naming.RequestNo.{RequestNo}
@@ -26,19 +26,19 @@ use Rattle.scfs_model.specs.SessionSteps.{Session_step, Open_read, Open_write, C
 use Rattle.scfs_model.specs.Steps.{Step, Outcome, Of_names, Of_locks, Of_sessions}
 use Rattle.scfs_model.specs.Agents.{Agent, Closed, Request, silent}
 use Rattle.scfs_model.specs.Opens.{As_empty, found, found_version, saw, sighted}
+use Rattle.scfs_model.specs.Leases.{leased}
 use Rattle.scfs_model.specs.Told.{tells, told, told_commit, untold}
-use Rattle.scfs_agent.specs.Views.{request_of}
-use Rattle.scfs_agent.specs.Views as views
-use Rattle.scfs_agent.specs.Telling.{IsIts, outcome_step, pending_step, first_place, is_numbered, is_open, has_version, shows_version, reads_version}
-use Rattle.scfs_agent.specs.declared.work.Pending.{Pending}
-use Rattle.scfs_agent.proofs.PendingLemmas.{any_found, none_pending, taken_found}
+use Rattle.scfs_agent.specs.Telling.{IsIts, outcome_step, pending_step, is_open, has_version, shows_version, reads_version}
+use Rattle.scfs_agent.proofs.LeaseLemmas.{told_calm}
+use Rattle.scfs_agent.proofs.PendingLemmas.{any_found}
 use Rattle.scfs_agent.proofs.ToldLemmas.{sight_is}
 
 -- all answers
 pub answers_end : (allows : RankFacts → ℕ → Type 0) (all rest : List RankFacts) (ranks : List ℕ) → rest ≡ []
     → ((more : List ℕ) → Answers allows rest more → Answers allows all (ranks ++ more)) → Answers allows all ranks
 answers_end allows all rest ranks none h =
-    subst (λ (xs : List ℕ). Answers allows all xs) (append-nil ranks) (h [] (subst (λ (facts : List RankFacts). Answers allows facts []) (sym none) tt))
+    subst (λ (xs : List ℕ). Answers allows all xs) (append-nil ranks)
+    (h [] (subst (λ (facts : List RankFacts). Answers allows facts []) (sym none) tt))
 
 pub shows_done : (result : StepResult) → IsDone result → shows_version result ≡ has_version (sight_of result)
 shows_done (results.Did bound taken shown) done = refl
@@ -47,12 +47,13 @@ shows_done (results.Refused index found) done = absurd done
 shows_refused : (step : tuples.Step) (why : Refusal) (result : StepResult) → IsRefusal step why result → shows_version result ≡ false
 shows_refused step why result h = ap shows_version h.2
 
-module _ (s : Setup) (a : ℕ) (agent : Agent Row) (given : Given) where
+module _ (s : Setup) (a : ℕ) (given : Given) (agent : Agent Row) where
   abbrev asked : Bool → List RankFacts
   asked b = cond b agent.tallies []
 
   sighted_by : (h : ℕ) (writes : Bool) (sight : machine.Sight Row) (b : Bool) (o : Option Row)
-      → (sighted s rows a agent given h writes sight (if b then As_empty else found_version o)).ranked ≡ asked (not b && is_some (option_map row_said o))
+      → (sighted s rows a agent given h writes sight (if b then As_empty else found_version o)).ranked
+      ≡ asked (not b && is_some (option_map row_said o))
   sighted_by h writes sight true None = refl
   sighted_by h writes sight true (Some v) = refl
   sighted_by h writes sight false None = refl
@@ -72,21 +73,23 @@ module _ (s : Setup) (a : ℕ) (agent : Agent Row) (given : Given) where
   commit_asks (x ∷ rest) (Ok (Locks sight l)) = refl
   commit_asks (x ∷ rest) (Err why) = refl
 
+module _ (s : Setup) (a : ℕ) (given : Given) (agent : Agent Row) where
   told_asks : (lease : ℕ) (request : RequestNo) (o : Outcome Row) (reply : Reply) → IsReplyTo lease request o reply
-      → (told s rows a agent given request o).ranked ≡ asked (is_open (outcome_step o) && shows_version reply.result)
+      → (told s rows a agent given request o).ranked ≡ asked s a given agent (is_open (outcome_step o) && shows_version reply.result)
   told_asks lease request (Of_names x r) reply is = refl
-  told_asks lease request (Of_locks x r) reply is = refl
-  told_asks lease request (Of_sessions (Commit h v) r) reply is = commit_asks agent.closed r
-  told_asks lease request (Of_sessions (Open_read names h) (Ok (Sees sight))) reply is = saw_asks request h false sight reply is
+  told_asks lease request (Of_locks x r) reply is = (told_calm agent x r).ranked
+  told_asks lease request (Of_sessions (Commit h v) r) reply is = commit_asks s a given agent agent.closed r
+  told_asks lease request (Of_sessions (Open_read names h) (Ok (Sees sight))) reply is = saw_asks s a given agent request h false sight reply is
   told_asks lease request (Of_sessions (Open_read names h) (Ok (Locks sight l))) reply is = absurd is
   told_asks lease request (Of_sessions (Open_read names h) (Ok (Completes session v n))) reply is = absurd is
   told_asks lease request (Of_sessions (Open_read names h) (Err why)) reply is =
-      ap asked (sym (shows_refused (step_of (session_plan lease request (Open_read names h))) why reply.result is))
+      ap (asked s a given agent) (sym (shows_refused (step_of (session_plan lease request (Open_read names h))) why reply.result is))
   told_asks lease request (Of_sessions (Open_write names h) (Ok (Sees sight))) reply is = absurd is
-  told_asks lease request (Of_sessions (Open_write names h) (Ok (Locks sight l))) reply is = saw_asks request h true sight reply is
+  told_asks lease request (Of_sessions (Open_write names h) (Ok (Locks sight l))) reply is =
+      saw_asks s a given (leased agent h l.until) request h true sight reply is.0
   told_asks lease request (Of_sessions (Open_write names h) (Ok (Completes session v n))) reply is = absurd is
   told_asks lease request (Of_sessions (Open_write names h) (Err why)) reply is =
-      ap asked (sym (shows_refused (step_of (session_plan lease request (Open_write names h))) why reply.result is))
+      ap (asked s a given agent) (sym (shows_refused (step_of (session_plan lease request (Open_write names h))) why reply.result is))
 
 -- what is asked, by the code's test
 pub tells_asks : (s : Setup) (a lease : ℕ) (agent : Agent Row) (given : Given) (request : RequestNo) (o : Outcome Row) (reply : Reply)
@@ -96,19 +99,9 @@ tells_asks s a lease agent given request o reply is its =
     ap (λ (b : Bool). (if b then told s rows a (untold agent request) given request o else silent agent).ranked) (any_found request agent.pending)
     ∙ by (pending_step agent.pending request) its where
       by : (p : Option (Request Row)) → IsIts p (outcome_step o)
-          → (if is_some p then told s rows a (untold agent request) given request o else silent agent).ranked ≡ cond (reads_version p reply.result) agent.tallies []
+          → (if is_some p then told s rows a (untold agent request) given request o else silent agent).ranked
+          ≡ cond (reads_version p reply.result) agent.tallies []
       by None e = refl
       by (Some x) e =
-          told_asks s a (untold agent request) given lease request o reply is
+          told_asks s a given (untold agent request) lease request o reply is
           ∙ ap (λ (step : Step Row). cond (is_open step && shows_version reply.result) agent.tallies []) (sym e)
-
--- a reply to a request that was not made, and to what stands at its place
-pub reads_none : (pending : List (Request Row)) (request : RequestNo) (result : StepResult) → first_place (is_numbered request) pending ≡ length pending
-    → false ≡ reads_version (pending_step pending request) result
-reads_none pending request result place = ap (λ (p : Option (Request Row)). reads_version p result) (sym (none_pending request pending place))
-
-pub reads_some : (pending : List Pending) (request : RequestNo) (result : StepResult) (at : ℕ) (x : Pending) → at ≡ first_place (is_numbered request) (map request_of pending)
-    → slice_get pending at ≡ Some x
-    → (is_open (views.step_of x.asking) && shows_version result) ≡ reads_version (pending_step (map request_of pending) request) result
-reads_some pending request result at x place is =
-    ap (λ (p : Option (Request Row)). reads_version p result) (sym (taken_found request pending at x place is))

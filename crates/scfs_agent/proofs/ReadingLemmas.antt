@@ -82,7 +82,8 @@ no_longer key bytes n = omega (arith, length-ciphered key (take n bytes), length
 
 contents_fit : (f size : ℕ) (pieces : List KeptPiece) → All (λ (p : KeptPiece). p.length ≡ size) pieces → length (unseal f pieces) ≤ size
 contents_fit f size pieces all =
-    let short : length (unseal f pieces) ≤ length_of pieces = no_longer _ _ (length_of pieces) in omega (arith, short, length_of_sized size pieces all)
+    let short : length (unseal f pieces) ≤ length_of pieces =
+    no_longer _ _ (length_of pieces) in omega (arith, short, length_of_sized size pieces all)
 
 or_left : (a b : Bool) → a ≡ true → (a || b) ≡ true
 or_left a b e = ap (λ (c : Bool). c || b) e
@@ -163,7 +164,8 @@ module _ (f : ℕ) (fetch : Fetch) (is : IsFetch f fetch) where
         list_any-append (λ other. other == c) t.asked (d ∷ [])
         ∙ or_left (list_any (λ other. other == c) t.asked) ((d == c) || false) (is.good c any);
   } where
-    of_more : (c : ℕ) → (list_any (λ other. other == c) t.asked ≡ true) ⊎ (((d == c) || false) ≡ true) → list_any (λ other. other == c) t.reading.order ≡ true
+    of_more : (c : ℕ) → (list_any (λ other. other == c) t.asked ≡ true) ⊎ (((d == c) || false) ≡ true)
+        → list_any (λ other. other == c) t.reading.order ≡ true
     of_more c (inl h) = is.within c h
     of_more c (inr h) =
         let same : d ≡ c = eqb-true d c (sym (or-false (d == c)) ∙ h) in
@@ -179,12 +181,14 @@ module _ (f : ℕ) (fetch : Fetch) (is : IsFetch f fetch) where
   abbrev kept : KeptPiece → Fetch
   kept p = record fetch { tracker = record t { pieces = t.pieces ++ p ∷ [] } }
 
-  kept_by : (p : KeptPiece) (cloud : ℕ) (b : Bool) → IsGoodOf t.reading.size cloud p → list_any (λ (x : requests.Asked). x.cloud == cloud) (asked_of fetch.gets) ≡ true
+  kept_by : (p : KeptPiece) (cloud : ℕ) (b : Bool) → IsGoodOf t.reading.size cloud p
+      → list_any (λ (x : requests.Asked). x.cloud == cloud) (asked_of fetch.gets) ≡ true
       → (length (t.pieces ++ p ∷ []) == t.reading.f + 1) ≡ b
       → HasRead f (kept p) (if b then read_steps.Whole (unseal t.reading.f (t.pieces ++ p ∷ [])) else read_steps.Wait)
   kept_by p cloud true good was e =
       let short : length (unseal t.reading.f (t.pieces ++ p ∷ [])) ≤ t.reading.size =
-      contents_fit t.reading.f t.reading.size (t.pieces ++ p ∷ []) (All-push (λ (p : KeptPiece). p.length ≡ t.reading.size) t.pieces p is.sized good.length_is) in
+      contents_fit t.reading.f t.reading.size (t.pieces ++ p ∷ []) (All-push (λ (p : KeptPiece). p.length
+      ≡ t.reading.size) t.pieces p is.sized good.length_is) in
       (is.row, omega (arith, short, is.size, is.row.short))
   kept_by p cloud false good was e = record {
     reading = is.reading;
@@ -200,7 +204,8 @@ module _ (f : ℕ) (fetch : Fetch) (is : IsFetch f fetch) where
     good = λ c any. of_more c (or_split (list_any (λ (q : KeptPiece). q.cloud == c) t.pieces) ((p.cloud == c) || false)
         (sym (list_any-append (λ (q : KeptPiece). q.cloud == c) t.pieces (p ∷ [])) ∙ any));
   } where
-    of_more : (c : ℕ) → (list_any (λ (q : KeptPiece). q.cloud == c) t.pieces ≡ true) ⊎ (((p.cloud == c) || false) ≡ true) → list_any (λ other. other == c) t.asked ≡ true
+    of_more : (c : ℕ) → (list_any (λ (q : KeptPiece). q.cloud == c) t.pieces ≡ true) ⊎ (((p.cloud == c) || false) ≡ true)
+        → list_any (λ other. other == c) t.asked ≡ true
     of_more c (inl h) = is.good c h
     of_more c (inr h) =
         let same : cloud ≡ c = sym good.cloud_is ∙ eqb-true p.cloud c (sym (or-false (p.cloud == c)) ∙ h) in
@@ -219,7 +224,10 @@ module _ (f : ℕ) (fetch : Fetch) (is : IsFetch f fetch) where
       → is_among cloud t.pieces ≡ false → HasRead f (record fetch { tracker = (heard t cloud answer).after }) (heard t cloud answer).step
   has_read cloud answer was none =
       let P : Bool → Type 0 = λ b.
-      HasRead f (record fetch { tracker = (heard_if t b (good_piece t.reading cloud answer)).after }) (heard_if t b (good_piece t.reading cloud answer)).step in
+      HasRead f (record fetch {
+        tracker =
+            (heard_if t b (good_piece t.reading cloud answer)).after;
+      }) (heard_if t b (good_piece t.reading cloud answer)).step in
       subst P (sym none) (heard_by cloud (good_piece t.reading cloud answer) (piece_is_good t cloud answer) was)
 
 same2 : {A B R : Type 0} (F : A → B → R) (x x' : A) (y y' : B) → x ≡ x' → y ≡ y' → F x y ≡ F x' y'
@@ -305,7 +313,8 @@ module _ (a : AgentState) where
     abbrev Heard-by : Agent Row → CloudAnswer → Bool → Reaction Row
     Heard-by agent answer b =
         let h = heard_if tr b (good_piece tr.reading cloud answer) in
-        reads (setup a) rows a.no (tallied agent cloud (not (not (is_among cloud h.after.pieces)))) (opening_of (record fetch { tracker = h.after })) (next_of h.step)
+        reads (setup a) rows a.no (tallied agent cloud (not (not (is_among cloud h.after.pieces)))) (opening_of (record fetch { tracker = h.after }))
+        (next_of h.step)
 
     -- what a tracker makes of an answer is what the machine takes it for
     pub takes_as : (agent : Agent Row) (answer : CloudAnswer)
@@ -329,12 +338,14 @@ any_left_by a b any both (inr h) rest = ap (λ (c : Bool). a || c) (rest h) ∙ 
 any_left : (p q : requests.Asked → Bool) (xs : List requests.Asked) → list_any (λ x. p x && q x) xs ≡ true → list_any p xs ≡ true
 any_left p q [] e = e
 any_left p q (x ∷ xs) e =
-    any_left_by (p x) (q x) (list_any p xs) (list_any (λ y. p y && q y) xs) (or_split (p x && q x) (list_any (λ y. p y && q y) xs) e) (any_left p q xs)
+    any_left_by (p x) (q x) (list_any p xs) (list_any (λ y. p y && q y) xs) (or_split (p x && q x) (list_any (λ y. p y && q y) xs) e)
+    (any_left p q xs)
 
 -- the same, by what the calls gave
 pub has_read_so : (f : ℕ) (fetch : Fetch) → IsFetch f fetch → (cloud : ℕ) (request : RequestNo) (answer : CloudAnswer)
     → requests.is_answer_to (asked_of fetch.gets) cloud request ≡ true → is_among cloud fetch.tracker.pieces ≡ false
-    → (n : ℕ) (tracker : Tracker) (step : ReadStep) → n ≡ f → tracker ≡ (heard fetch.tracker cloud answer).after → step ≡ (heard fetch.tracker cloud answer).step
+    → (n : ℕ) (tracker : Tracker) (step : ReadStep) → n ≡ f → tracker ≡ (heard fetch.tracker cloud answer).after → step
+    ≡ (heard fetch.tracker cloud answer).step
     → HasRead n (record fetch { tracker = tracker }) step
 has_read_so f fetch is cloud request answer mine none n tracker step same after steps =
     let h = heard fetch.tracker cloud answer in
@@ -389,7 +400,8 @@ any_take test (suc n) (x ∷ xs) e = any_take_by (test x) (list_any test (take n
 
 -- an open that begins, once the first f + 1 clouds of the order are asked
 pub first_asking : (f : ℕ) (fetch : Fetch) (order first : List ℕ) → IsRow fetch.row → fetch.gets ≡ [] → IsOrder f order
-    → fetch.tracker ≡ begun (record { f = f; root = fetch.row.root; size = fetch.row.length; order = order; turns = Some 8 }) → first ≡ take (f + 1) order
+    → fetch.tracker ≡ begun (record { f = f; root = fetch.row.root; size = fetch.row.length; order = order; turns = Some 8 }) → first
+    ≡ take (f + 1) order
     → IsFetchAsking f fetch first
 first_asking f fetch order first row none ordered tracks firsts = record {
   reading = ap (λ (t : Tracker). t.reading.f) tracks;
@@ -397,7 +409,8 @@ first_asking f fetch order first row none ordered tracks firsts = record {
   size = ap (λ (t : Tracker). t.reading.size) tracks;
   row = row;
   few = omega (arith, ap (λ (t : Tracker). length t.pieces) tracks);
-  sized = subst (λ (t : Tracker). All (λ (p : KeptPiece). p.length ≡ t.reading.size) t.pieces) (sym tracks) (All-nil (λ (p : KeptPiece). p.length ≡ fetch.row.length));
+  sized = subst (λ (t : Tracker). All (λ (p : KeptPiece). p.length ≡ t.reading.size) t.pieces) (sym tracks) (All-nil (λ (p : KeptPiece). p.length
+      ≡ fetch.row.length));
   first = omega (arith, ap (λ (t : Tracker). turns_left t.left) tracks);
   last = omega (arith, ap (λ (t : Tracker). turns_left t.left) tracks);
   asked = λ c.

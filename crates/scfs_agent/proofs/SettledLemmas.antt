@@ -13,17 +13,19 @@ use Rattle.scfs_model.specs.Reading.{piece_in, is_awaited, with_piece, read_on, 
 use Rattle.scfs_model.specs.Storing.{is_new_ack, with_ack, store_on, store_turn}
 use Rattle.scfs_model.specs.SessionSteps.{Sight}
 use Rattle.scfs_model.specs.Sayings.{Saying}
-use Rattle.scfs_model.specs.Agents.{Agent, Opening, Waiting, For_step, For_clouds, For_close, Closed, Upload, Request, Sent, Reaction, silent, followed}
+use Rattle.scfs_model.specs.Agents.{Agent, Opening, Closed, Upload, Request, Sent, Reaction, silent, followed}
 use Rattle.scfs_model.specs.Opens.{Found, As_empty, On_clouds, reads, takes, open_hears, open_turns, gives_up, tallied, sighted}
 use Rattle.scfs_model.specs.Closes.{stores, upload_hears, upload_turns, with_storing}
-use Rattle.scfs_model.specs.Reactions.{idle, to_open, to_upload, to_work, next_begun, begun}
+use Rattle.scfs_model.specs.Reactions.{next_begun, begun}
 use Rattle.scfs_agent.specs.Settled.{settled, HasBegun}
 
-same_reaction : (agent agent' : Agent Row) (says says' : List Saying) (steps steps' : List (Request Row)) (sent sent' : List Sent) (ranked ranked' : List RankFacts)
+same_reaction : (agent agent' : Agent Row) (says says' : List Saying) (steps steps' : List (Request Row)) (sent sent' : List Sent)
+    (ranked ranked' : List RankFacts)
     → agent ≡ agent' → says ≡ says' → steps ≡ steps' → sent ≡ sent' → ranked ≡ ranked'
     → let r : Reaction Row = record { agent = agent; says = says; steps = steps; sent = sent; ranked = ranked } in
     let q : Reaction Row = record { agent = agent'; says = says'; steps = steps'; sent = sent'; ranked = ranked' } in r ≡ q
-same_reaction agent agent' says says' steps steps' sent sent' ranked ranked' a b c d e = λ i. record { agent = a i; says = b i; steps = c i; sent = d i; ranked = e i }
+same_reaction agent agent' says says' steps steps' sent sent' ranked ranked' a b c d e =
+    λ i. record { agent = a i; says = b i; steps = c i; sent = d i; ranked = e i }
 
 abbrev joined : Reaction Row → Reaction Row → Reaction Row
 joined r second =
@@ -92,7 +94,8 @@ module _ (s : Setup) (a : ℕ) where
   sighted_leaves agent given h writes sight (On_clouds v) = refl
 
   -- uploads
-  stores_begun : (agent : Agent Row) (x : Closed Row) (u : Upload Row) (next : Next (Unit {0})) → agent.closed ≡ [] → HasBegun (stores s a agent x u next).agent.closed
+  stores_begun : (agent : Agent Row) (x : Closed Row) (u : Upload Row) (next : Next (Unit {0})) → agent.closed ≡ []
+      → HasBegun (stores s a agent x u next).agent.closed
   stores_begun agent x u Goes_on none = refl
   stores_begun agent x u (Asks clouds) none = refl
   stores_begun agent x u (Has enough) none = refl
@@ -101,43 +104,10 @@ module _ (s : Setup) (a : ℕ) where
   pub hears_begun : (agent : Agent Row) (x : Closed Row) (u : Upload Row) (c : ℕ) (request : RequestNo) (answer : CloudAnswer) → agent.closed ≡ []
       → HasBegun (upload_hears s a agent x u c request answer).agent.closed
   hears_begun agent x u c request answer none = by (is_new_ack u.storing c request answer) where
-    by : (b : Bool) → HasBegun (if b then stores s a agent x (with_storing u (with_ack u.storing c)) (store_on s u.storing) else stores s a agent x u Goes_on).agent.closed
+    by : (b : Bool) → HasBegun
+        (if b then stores s a agent x (with_storing u (with_ack u.storing c)) (store_on s u.storing) else stores s a agent x u Goes_on).agent.closed
     by true = stores_begun agent x (with_storing u (with_ack u.storing c)) (store_on s u.storing) none
     by false = refl
 
   pub turns_begun : (agent : Agent Row) (x : Closed Row) (u : Upload Row) → agent.closed ≡ [] → HasBegun (upload_turns s a agent x u).agent.closed
   turns_begun agent x u none = stores_begun agent x _ (store_turn s u.storing) none
-
--- an agent without closed sessions has no upload
-pub no_upload : (r : Reaction Row) (on : Agent Row → Closed Row → Upload Row → Reaction Row) → r.agent.closed ≡ []
-    → followed r (λ next. to_upload next on next.closed) ≡ r
-no_upload r on none = quiet r (λ next. to_upload next on next.closed) (ap (to_upload r.agent on) none)
-
--- what comes to an agent with an open from the clouds is for that; to one with an upload, for that
-pub to_work-open : (agent : Agent Row) (o : Opening Row) (on_open : Agent Row → Opening Row → Reaction Row)
-    (on_upload : Agent Row → Closed Row → Upload Row → Reaction Row) → agent.waiting ≡ Some (For_clouds o) → agent.closed ≡ []
-    → (on_open (idle agent) o).agent.closed ≡ agent.closed → to_work agent on_open on_upload ≡ on_open (idle agent) o
-to_work-open agent o on_open on_upload waits none leaves =
-    ap (λ (w : Option (Waiting Row)). followed (to_open agent on_open w) (λ next. to_upload next on_upload next.closed)) waits
-    ∙ no_upload (on_open (idle agent) o) on_upload (leaves ∙ none)
-
-pub to_work-upload : (agent : Agent Row) (x : Closed Row) (u : Upload Row) (on_open : Agent Row → Opening Row → Reaction Row)
-    (on_upload : Agent Row → Closed Row → Upload Row → Reaction Row) → agent.waiting ≡ Some For_close → agent.closed ≡ (record x { upload = Some u }) ∷ []
-    → to_work agent on_open on_upload ≡ on_upload (record agent { closed = [] }) (record x { upload = Some u }) u
-to_work-upload agent x u on_open on_upload waits one =
-    ap (λ (w : Option (Waiting Row)). followed (to_open agent on_open w) (λ next. to_upload next on_upload next.closed)) waits
-    ∙ ap (to_upload agent on_upload) one
-
-pub to_work-none : (agent : Agent Row) (on_open : Agent Row → Opening Row → Reaction Row)
-    (on_upload : Agent Row → Closed Row → Upload Row → Reaction Row) → agent.waiting ≡ None → agent.closed ≡ []
-    → to_work agent on_open on_upload ≡ silent agent
-to_work-none agent on_open on_upload waits none =
-    ap (λ (w : Option (Waiting Row)). followed (to_open agent on_open w) (λ next. to_upload next on_upload next.closed)) waits
-    ∙ no_upload (silent agent) on_upload none
-
-pub to_work-step : (agent : Agent Row) (on_open : Agent Row → Opening Row → Reaction Row)
-    (on_upload : Agent Row → Closed Row → Upload Row → Reaction Row) → agent.waiting ≡ Some For_step → agent.closed ≡ []
-    → to_work agent on_open on_upload ≡ silent agent
-to_work-step agent on_open on_upload waits none =
-    ap (λ (w : Option (Waiting Row)). followed (to_open agent on_open w) (λ next. to_upload next on_upload next.closed)) waits
-    ∙ no_upload (silent agent) on_upload none

@@ -27,7 +27,8 @@ kind_read kinds.Dir = refl
 kind_read kinds.File = refl
 
 -- the node that a stat showed is in its answer
-pub stat_read : (a : ℕ) (before : List Field) (n : Node) → stat_line a false (before ++ seen_fields n) ≡ lines.OkStat a n.kind n.id n.newest n.size hows.Fresh
+pub stat_read : (a : ℕ) (before : List Field) (n : Node) → stat_line a false (before ++ seen_fields n)
+    ≡ lines.OkStat a n.kind n.id n.newest n.size hows.Fresh
 stat_read a before n =
     let bound = before ++ seen_fields n in
     let line : ℕ → ℕ → ℕ → ℕ → Line = λ id kind newest size. lines.OkStat a (kind_of kind) (record { 0 = id }) newest size hows.Fresh in

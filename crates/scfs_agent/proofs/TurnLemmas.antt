@@ -26,7 +26,8 @@ any_filter_by p c x true false rest kept e f h =
 any_filter_by p c x false true rest kept e f h = h
 any_filter_by p c x false false rest kept e f h = h
 
-any_cond : (d : Bool) (x c : ℕ) (xs : List ℕ) → list_any (λ other. other == c) (cond d (x ∷ xs) xs) ≡ (if d then (x == c) || list_any (λ other. other == c) xs else list_any (λ other. other == c) xs)
+any_cond : (d : Bool) (x c : ℕ) (xs : List ℕ) → list_any (λ other. other == c) (cond d (x ∷ xs) xs)
+    ≡ (if d then (x == c) || list_any (λ other. other == c) xs else list_any (λ other. other == c) xs)
 any_cond true x c xs = refl
 any_cond false x c xs = refl
 
@@ -37,7 +38,8 @@ any_filter p c [] = none (p c) where
   none false = refl
 any_filter p c (x ∷ xs) =
     any_cond (p x) x c (filter p xs)
-    ∙ any_filter_by p c x (x == c) (p x) (list_any (λ other. other == c) xs) (list_any (λ other. other == c) (filter p xs)) refl refl (any_filter p c xs)
+    ∙ any_filter_by p c x (x == c) (p x) (list_any (λ other. other == c) xs) (list_any (λ other. other == c) (filter p xs)) refl refl
+    (any_filter p c xs)
 
 -- what was asked before, and what is asked now, are all
 all_of : (g a o : Bool) → (g ≡ true → o ≡ true) → (a ≡ true → g ≡ true) → (g || (not a && o)) ≡ o
@@ -122,11 +124,13 @@ module _ (a : AgentState) (agent : Agent Row) (fetch : Fetch) (is : IsFetch a.he
     by false l e = cc
 
   pub turn_again : turn_comes_to tr ≡ turn_steps.Again
-      → open_turns (setup a) rows a.no agent (opening_of fetch) ≡ asks_gets (setup a) rows a.no agent (opening_of (record fetch { tracker = turn_taken tr })) all
+      → open_turns (setup a) rows a.no agent (opening_of fetch)
+      ≡ asks_gets (setup a) rows a.no agent (opening_of (record fetch { tracker = turn_taken tr })) all
   turn_again again = again_by tr.left again is.first is.last
 
   spent_by : (o : Option ℕ) (good : ℕ) → ends_at o (length tr.pieces) ≡ turn_steps.Spent good → 1 ≤ turns_left o
-      → reads (setup a) rows a.no agent (came ((8 - turns_left o) + 1)) (next (turns_left o)) ≡ gives_up (setup a) rows a.no agent (opening_of fetch) good
+      → reads (setup a) rows a.no agent (came ((8 - turns_left o) + 1)) (next (turns_left o))
+      ≡ gives_up (setup a) rows a.no agent (opening_of fetch) good
   spent_by None good e first = cc
   spent_by (Some n) good e first = by (nat_lt 1 n) refl e where
     by : (b : Bool) → nat_lt 1 n ≡ b → (if b then turn_steps.Again else turn_steps.Spent (length tr.pieces)) ≡ turn_steps.Spent good

@@ -23,7 +23,7 @@ MayUpload a incarnation (Some u) = MayClose a incarnation u.version
 -- what agent a draws next fits, and so do the versions that it uploads
 pub record MayAsk (a : ℕ) (agent : Agent Row) : Type 0 where
   pub number : a < 2 ^ 8
-  pub incarnation : agent.incarnation < 2 ^ 24
+  pub incarnation : agent.incarnation + 1 < 2 ^ 24
   pub opens : agent.opens + 1 < 2 ^ 64
   pub files : agent.files + 1 < 2 ^ 32
   pub closes : Each (λ (x : Closed Row). MayUpload a agent.incarnation x.upload) agent.closed

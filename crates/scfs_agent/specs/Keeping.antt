@@ -1,6 +1,7 @@
-use Rattle.std.specs.Prelude.{◌≡◌, ◌≢◌, ◌<◌, ◌≤◌, ◌^◌, ℕ, ◌+◌, ◌*◌, List, [], ◌∷◌, length, map, cond, Bool, true, false, ◌||◌, ◌==◌, Option, Some, None}
+use Rattle.std.specs.Prelude.{◌≡◌, ◌≢◌, ◌<◌, ◌≤◌, ℕ, ◌+◌, ◌*◌, List, [], ◌∷◌, length, map, cond, Bool, true, false, ◌||◌, ◌==◌, Option, Some, None}
 use Rattle.std.specs.List.{All, list_any}
 use Rattle.scfs_base.specs.Limits.{contents_limit}
+use Rattle.scfs_lease.specs.declared.leases.Lease.{Lease}
 use Rattle.scfs_policy.specs.declared.rank.RankFacts.{RankFacts}
 use Rattle.scfs_schedule.specs.Grammar.{IsHeader}
 use Rattle.scfs_schedule.specs.declared.types.Header.{Header}
@@ -16,6 +17,7 @@ use Rattle.scfs_anchor.specs.declared.seen.VersionRow.{VersionRow}
 use Rattle.scfs_model.specs.Lists.{below}
 use Rattle.scfs_model.specs.Asked as requests
 use Rattle.scfs_model.specs.Layers.{Row}
+use Rattle.scfs_model.specs.Lives.{Ready}
 use Rattle.scfs_model.specs.SessionSteps.{Open_read, Open_write, Commit}
 use Rattle.scfs_model.specs.Steps.{Step, On_names, On_locks, On_sessions}
 use Rattle.scfs_model.specs.Agents as machine
@@ -80,6 +82,8 @@ pub record IsUpload (a incarnation f inputs : ℕ) (upload : Upload) : Type 0 wh
   pub closes : MayClose a incarnation (row_of upload.row)
 
 abbrev pub IsWork : (a incarnation f inputs : ℕ) → Work → Type 0
+IsWork a incarnation f inputs works.Down = Unit {0}
+IsWork a incarnation f inputs works.Starting = Unit {0}
 IsWork a incarnation f inputs works.Idle = Unit {0}
 IsWork a incarnation f inputs works.Step = Unit {0}
 IsWork a incarnation f inputs (works.Fetch fetch) = IsFetch f fetch
@@ -113,28 +117,38 @@ calls_of (Some For_step) = 1
 calls_of (Some (For_clouds o)) = 0
 calls_of (Some For_close) = 0
 
--- a step can be asked: its path is below the root, but for a look; its version is not the first state of a file
+-- a step can be asked: its path is below the root, but for a look; a session that opens has a number above 0; a version is not the first
+-- state of a file
 abbrev pub FitsAsking : Asking → Type 0
 FitsAsking (askings.Make path id) = path ≢ []
 FitsAsking (askings.Look path) = Unit {0}
-FitsAsking (askings.OpenRead path session) = path ≢ []
-FitsAsking (askings.OpenWrite path session) = path ≢ []
+FitsAsking (askings.OpenRead path session) = (path ≢ []) × (1 ≤ session)
+FitsAsking (askings.OpenWrite path session) = (path ≢ []) × (1 ≤ session)
 FitsAsking (askings.Commit session row) = 1 ≤ row.number
 FitsAsking (askings.Unlock id session) = Unit {0}
+FitsAsking askings.UnlockAll = Unit {0}
+FitsAsking (askings.Renew id session) = Unit {0}
 
--- its numbers are in their ranges, and each input has it draw at most 32 requests and one session, file and upload; the step of its
--- unanswered call is the only one for which a call waits
-pub record IsKept (header : Header) (no incarnation inputs requests opens files uploads : ℕ) (work : Work) (sessions : OpenSessions) (tallies : List RankFacts) (pending : List Pending) : Type 0 where
+-- the sessions with a lock have numbers above 0, and are at most so many
+pub record AreLeases (most : ℕ) (leases : List Lease) : Type 0 where
+  pub few : length leases ≤ most
+  pub numbered : All (λ (l : Lease). 1 ≤ l.session) leases
+
+-- its numbers are in their ranges, and each input has it draw at most 2,000,000 requests and one incarnation, session, file, upload and
+-- lock; the step of its unanswered call is the only one for which a call waits
+pub record IsKept (header : Header) (no incarnation inputs requests opens files uploads : ℕ) (work : Work) (sessions : OpenSessions)
+    (leases : List Lease) (tallies : List RankFacts) (pending : List Pending) : Type 0 where
   pub is_header : IsHeader header
   pub member : no < length header.agents
-  pub incarnations : incarnation < 2 ^ 24
   pub counted : inputs ≤ 1000000
-  pub drawn : requests ≤ 32 * inputs
+  pub started : incarnation ≤ inputs
+  pub drawn : requests ≤ 2000000 * inputs
   pub opened : opens ≤ inputs
   pub made : files ≤ inputs
   pub begun : uploads ≤ inputs
   pub working : IsWork no incarnation header.f inputs work
   pub bases : HaveBases sessions
+  pub leased : AreLeases inputs leases
   pub tallied : AreTallies header.f inputs tallies
   pub waits : calls_in (map request_of pending) ≤ calls_of (waiting_of work)
   pub fitting : All (λ (x : Pending). FitsAsking x.asking) pending
@@ -151,18 +165,25 @@ abbrev pub MayTurn : (inputs : ℕ) → List (Closed Row) → Type 0
 MayTurn inputs [] = Unit {0}
 MayTurn inputs (x ∷ rest) = HasTurns inputs x.upload
 
--- an input was counted, for which requests, a session, a file and an upload may still be drawn
+-- a few requests more may be drawn, once all locks could be renewed
+abbrev pub MayDraw : AgentState → Type 0
+MayDraw a = a.agent.requests + 32 ≤ 2000000 * a.inputs
+
+-- an input was counted, for which requests, an incarnation, a session, a file, an upload and a lock may still be drawn
 pub record HasRoom (a : AgentState) : Type 0 where
-  pub requests : a.agent.requests + 32 ≤ 32 * a.inputs
+  pub requests : a.agent.requests + 2000000 ≤ 2000000 * a.inputs
+  pub incarnation : a.agent.incarnation + 1 ≤ a.inputs
   pub opens : a.agent.opens + 1 ≤ a.inputs
   pub files : a.agent.files + 1 ≤ a.inputs
   pub uploads : a.agent.uploads + 1 ≤ a.inputs
+  pub leases : length a.agent.leases + 1 ≤ a.inputs
   pub tallies : HaveRoom a.inputs a.agent.tallies
   pub turns : MayTurn a.inputs a.agent.closed
   pub closed : OneBegun a.agent.closed
 
--- no session is being uploaded, and no call waits for a step
+-- it is ready, no session is being uploaded, and no call waits for a step
 pub record IsFree (a : AgentState) : Type 0 where
+  pub life : a.agent.life ≡ Ready
   pub closed : a.agent.closed ≡ []
   pub calls : calls_in a.agent.pending ≡ 0
 
@@ -182,3 +203,9 @@ abbrev pub FitsOutput : (f : ℕ) → Output → Type 0
 FitsOutput f (outputs.Space request step) = IsStep step
 FitsOutput f (outputs.Cloud c request body) = c < 3 * f + 1
 FitsOutput f (outputs.Line line) = Unit {0}
+
+-- what no input changes, but for their count
+pub record Keeps (old new : AgentState) : Type 0 where
+  pub header : new.header ≡ old.header
+  pub no : new.no ≡ old.no
+  pub inputs : new.inputs ≡ old.inputs

@@ -15,7 +15,7 @@ use Rattle.scfs_agent.specs.State.{AgentState}
 use Rattle.scfs_agent.specs.declared.types.Output.{Output}
 use Rattle.scfs_agent.specs.declared.types.Output.TheVariants as outputs
 
--- The outputs of an agent are those of the machine's reaction: what it says, the steps that it asks, its requests to clouds.
+-- The outputs of an agent are those of the machine's reaction: the steps that it asks, what it says, its requests to clouds.
 
 abbrev pub said_outputs : (a : ℕ) → List Saying → List Output
 said_outputs a says = map (λ x. outputs.Line (said_by a x)) says
@@ -26,8 +26,11 @@ step_output lease x = outputs.Space x.number (step_on_tuples lease x.number x.st
 abbrev pub sent_outputs : List Sent → List Output
 sent_outputs sent = map (λ (x : Sent). outputs.Cloud x.cloud x.number x.body) sent
 
+abbrev pub outputs_by : (a lease : ℕ) → Reaction Row → List Output
+outputs_by a lease r = map (step_output lease) r.steps ++ said_outputs a r.says ++ sent_outputs r.sent
+
 abbrev pub outputs_of : AgentState → Reaction Row → List Output
-outputs_of a r = said_outputs a.no r.says ++ map (step_output a.header.lease) r.steps ++ sent_outputs r.sent
+outputs_of a r = outputs_by a.no a.header.lease r
 
 -- requests to clouds with these bodies
 abbrev pub sent_to : (body : (c : ℕ) → CloudRequest) → List Asked → List Sent

@@ -21,7 +21,6 @@ use Rattle.scfs_model.specs.SessionSteps.{Session_step, Open_read, Open_write, C
 use Rattle.scfs_model.specs.Steps.{Step, On_names, On_locks, On_sessions, Outcome, Of_names, Of_locks, Of_sessions}
 use Rattle.scfs_model.specs.Agents.{Request}
 use Rattle.scfs_model.specs.Opens.{Found, As_empty, On_clouds}
-use Rattle.scfs_agent.specs.State.{AgentState}
 use Rattle.scfs_agent.specs.Views.{row_of}
 use Rattle.scfs_agent.specs.Keeping.{IsRow}
 
@@ -46,10 +45,10 @@ IsIts None step = Unit {0}
 IsIts (Some x) step = x.step ≡ step
 
 -- a reply to a request is that of an outcome: of the step that was asked under that number
-pub record IsTold (a : AgentState) (request : RequestNo) (reply : Reply) (o : Outcome Row) : Type 0 where
-  pub replied : IsReplyTo a.header.lease request o reply
+pub record IsTold (lease : ℕ) (pending : List (Request Row)) (request : RequestNo) (reply : Reply) (o : Outcome Row) : Type 0 where
+  pub replied : IsReplyTo lease request o reply
   pub fits : FitsOutcome o
-  pub asked : IsIts (pending_step a.agent.pending request) (outcome_step o)
+  pub asked : IsIts (pending_step pending request) (outcome_step o)
 
 -- the kind that a number of a node's tuple stands for
 abbrev pub kind_of : ℕ → Kind
@@ -60,7 +59,10 @@ abbrev pub stat_line : (a : ℕ) → (of_root : Bool) → List Field → Line
 stat_line a of_root bound =
     if of_root then lines.OkStat a kinds.Dir root_id 0 0 hows.Fresh
     else (let at = length bound - 4 in
-    lines.OkStat a (kind_of (number_at bound (at + 1))) (record { 0 = number_at bound at }) (number_at bound (at + 2)) (number_at bound (at + 3)) hows.Fresh)
+    lines.OkStat a (kind_of (number_at bound (at + 1))) (record {
+      0 =
+          number_at bound at;
+    }) (number_at bound (at + 2)) (number_at bound (at + 3)) hows.Fresh)
 
 -- a sight whose numbers fit
 pub record FitsSeen (seen : Sight) : Type 0 where
@@ -96,6 +98,11 @@ is_open (On_sessions (Commit session v)) = false
 abbrev pub reads_version : Option (Request Row) → StepResult → Bool
 reads_version None result = false
 reads_version (Some x) result = is_open x.step && shows_version result
+
+-- the numbers fit that a reply to an open shows
+abbrev pub FitsReply : Option (Request Row) → Reply → Type 0
+FitsReply None reply = Unit {0}
+FitsReply (Some x) reply = is_open x.step ≡ true → FitsSeen (sight_of reply.result)
 
 -- the place of the first item that passes a test, behind all where there is none
 abbrev pub first_place : {X : Type 0} → (X → Bool) → List X → ℕ

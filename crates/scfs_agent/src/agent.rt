@@ -1,28 +1,30 @@
-ghost use Rattle.std.specs.Prelude.{◌≡◌, ◌+◌, ◌*◌, ◌^◌, ◌<◌, ◌≤◌, ℕ, [], length, true, is_some, cond, map, IfOk, OnOk};
+ghost use Rattle.std.specs.Prelude.{◌≡◌, ◌+◌, ◌^◌, ◌<◌, ◌≤◌, ◌*◌, [], length, is_some, cond, IfOk, OnOk};
 ghost use Rattle.scfs_tuples.specs.Steps.{IsStep};
 ghost use Rattle.std.specs.List.{All};
 ghost use Rattle.scfs_policy.specs.Rank.{IsRankRule};
-ghost use Rattle.scfs_policy.specs.declared.rank.RankFacts.{RankFacts};
 ghost use Rattle.scfs_schedule.specs.Grammar.{IsHeader};
 ghost use Rattle.scfs_anchor.specs.StepPlans.{step_on_tuples};
-ghost use Rattle.scfs_model.specs.Lists.{below};
 ghost use Rattle.scfs_model.specs.Names.{request_no};
 ghost use Rattle.scfs_model.specs.Layers.{rows};
 ghost use Rattle.scfs_model.specs.UnitFormat.{under};
-ghost use Rattle.scfs_model.specs.Agents.{first_agent, asks_step};
-ghost use Rattle.scfs_model.specs.Reactions.{hears, turns};
-ghost use Rattle.scfs_agent.specs.State.{setup};
+ghost use Rattle.scfs_model.specs.Lives.{is_up};
+ghost use Rattle.scfs_model.specs.Agents.{first_agent, asks_step, no_tallies};
+ghost use Rattle.scfs_model.specs.Opens.{open_turns};
+ghost use Rattle.scfs_model.specs.Closes.{upload_turns};
+ghost use Rattle.scfs_model.specs.Reactions.{hears, to_work, turns};
+ghost use Rattle.scfs_agent.specs.State.{setup, given_now};
 ghost use Rattle.scfs_agent.specs.Asking.{MayAsk};
 ghost use Rattle.scfs_agent.specs.Views.{step_of};
 ghost use Rattle.scfs_agent.specs.Outputs.{outputs_of};
-ghost use Rattle.scfs_agent.specs.Keeping.{FitsOutput, FitsAsking, HasRoom, AreTallies, calls_in, calls_of, is_call};
-ghost use Rattle.scfs_agent.specs.Reacting.{FitsInput, Reacts, Obeys};
+ghost use Rattle.scfs_agent.specs.Keeping.{FitsOutput, FitsAsking, HasRoom, Keeps, MayDraw, MayTurn, calls_in, calls_of, is_call};
+ghost use Rattle.scfs_agent.specs.Reacting.{FitsInput, Reacts};
 
-use crate::outputs::alone;
+use crate::outputs::{alone, extend};
 use crate::work::{Asking, Pending, Work};
 use crate::{Input, Output};
-use scfs_anchor::{commit, create, open_read, open_write, stat, unlock};
+use scfs_anchor::{commit, create, open_read, open_write, renew, stat, unlock, unlock_all};
 use scfs_base::{CloudAnswer, Memory, RequestNo, Sequence};
+use scfs_lease::Leases;
 use scfs_policy::{RankFacts, RankRule};
 use scfs_schedule::Header;
 use scfs_session::Sessions;
@@ -40,6 +42,7 @@ pub struct Agent {
     pub(crate) inputs: u64,
     pub(crate) work: Work,
     pub(crate) sessions: Sessions,
+    pub(crate) leases: Leases,
     pub(crate) pending: Sequence<Pending>,
     pub(crate) tallies: Sequence<RankFacts>,
     pub(crate) incarnation: u32,
@@ -53,7 +56,7 @@ impl Model for Agent {
     ghost use Rattle.std.specs.Coded.{codes};
     ghost use Rattle.std.specs.Prelude.{map};
     ghost use Rattle.scfs_agent.specs.State.{AgentState};
-    ghost use Rattle.scfs_agent.specs.Views.{waiting_of, closed_in, request_of};
+    ghost use Rattle.scfs_agent.specs.Views.{life_of, waiting_of, closed_in, request_of};
     ghost use Rattle.scfs_agent.specs.Keeping.{IsKept};
     ghost use Rattle.scfs_agent.specs.contracts.work.Work as unfinished;
 
@@ -66,9 +69,11 @@ impl Model for Agent {
       no = a.no;
       inputs = a.inputs;
       agent = record {
+        life = life_of a.work;
         waiting = waiting_of a.work;
         sessions = a.sessions;
         closed = closed_in a.work;
+        leases = a.leases;
         pending = map request_of a.pending;
         tallies = a.tallies;
         incarnation = a.incarnation;
@@ -79,16 +84,17 @@ impl Model for Agent {
       };
     } };
 
-    ghost invariant = { λ a. IsKept a.header a.no a.incarnation a.inputs a.requests a.opens a.files a.uploads a.work a.sessions a.tallies
-        a.pending };
+    ghost invariant = { λ a. IsKept a.header a.no a.incarnation a.inputs a.requests a.opens a.files a.uploads a.work a.sessions a.leases
+        a.tallies a.pending };
 }
 
-/// The tallies of this many clouds, with no answers counted.
-fn no_tallies(alloc: Global, count: u8) -> Result<Sequence<RankFacts>, Memory>
-    ensures { IfOk result (λ tallies. tallies ≡ map (λ c. record { cloud = c; good = 0; bad = 0 }) (below count)) }
+/// The tallies of all clouds, with no answers counted.
+pub(crate) fn no_tallies(alloc: Global, header: &Header) -> Result<Sequence<RankFacts>, Memory>
+    requires { IsHeader header.now }
+    ensures { IfOk result (λ tallies. tallies ≡ no_tallies (under header.now)) }
 {
     let mut tallies = Sequence::new(alloc);
-    for cloud in 0..count {
+    for cloud in 0..3 * header.f + 1 {
         tallies.push(RankFacts {
             cloud,
             good: 0,
@@ -113,8 +119,9 @@ impl Agent {
             inputs: 0,
             work: Work::Idle,
             sessions: Sessions::new(alloc)?,
+            leases: Leases::new(alloc)?,
             pending: Sequence::new(alloc),
-            tallies: no_tallies(alloc, 3 * header.f + 1)?,
+            tallies: no_tallies(alloc, header)?,
             incarnation: 0,
             requests: 0,
             opens: 0,
@@ -123,7 +130,7 @@ impl Agent {
         })
     }
 
-    /// What the agent does when this input comes: its answers, then its requests. Fewer than 1,000,000 came before.
+    /// What the agent does when this input comes: its steps, its answers, then its requests to clouds. Fewer than 1,000,000 came before.
     pub fn on<R: Fn(RankFacts) -> u64>(
         &mut self,
         now: u64,
@@ -132,8 +139,9 @@ impl Agent {
     ) -> Result<Sequence<Output>, Memory>
         requires rank { IsRankRule (R.pre rank.now) }
         requires room { self.old.inputs < 1000000 }
-        requires input { FitsInput self.old input }
-        ensures reacts { IfOk result (λ given. Reacts (R.post rank.now) now input self.old self.new given) }
+        requires input { FitsInput self.old.header self.old.agent input }
+        ensures reacts { IfOk result (λ given.
+            Reacts (R.post rank.now) now self.old.header self.old.no self.old.agent self.new.agent given input) }
         ensures asks { IfOk result (λ given. All (FitsOutput self.old.header.f) given) }
         ensures header { OnOk result (self.new.header ≡ self.old.header) }
         ensures no { OnOk result (self.new.no ≡ self.old.no) }
@@ -168,8 +176,10 @@ impl Agent {
     ) -> Result<Sequence<Output>, Memory>
         requires rank { IsRankRule (R.pre rank.now) }
         requires room { HasRoom self.old }
-        requires input { FitsInput self.old input.now }
-        ensures reacts { IfOk result (λ given. Obeys (R.post rank.now) now input.now self.old self.new given) }
+        requires input { FitsInput self.old.header self.old.agent input.now }
+        ensures reacts { IfOk result (λ given.
+            Reacts (R.post rank.now) now self.old.header self.old.no self.old.agent self.new.agent given input.now) }
+        ensures keeps { OnOk result (Keeps self.old self.new) }
         ensures asks { IfOk result (λ given. All (FitsOutput self.old.header.f) given) }
     {
         self.may_ask();
@@ -180,8 +190,9 @@ impl Agent {
                 self.told(now, ranks.as_slice(), *request, reply)
             }
             Input::Cloud(cloud, request, answer) => self.heard(*cloud, *request, answer),
-            Input::Turn => self.turn(),
-            Input::Crash | Input::Start => Ok(Sequence::new(self.alloc)),
+            Input::Turn => self.turn(now),
+            Input::Crash => self.crash(),
+            Input::Start => self.start(),
         }
     }
 
@@ -202,31 +213,49 @@ impl Agent {
         ensures asks { IfOk result (λ given. All (FitsOutput self.old.header.f) given) }
     {
         match mem::replace(&mut self.work, Work::Idle) {
-            Work::Idle => Ok(Sequence::new(self.alloc)),
-            Work::Step => {
-                self.work = Work::Step;
-                Ok(Sequence::new(self.alloc))
-            }
             Work::Fetch(fetch) => self.heard_fetch(fetch, cloud, request, answer),
             Work::Upload(upload) => self.heard_upload(upload, cloud, request, answer),
+            other => {
+                self.work = other;
+                Ok(Sequence::new(self.alloc))
+            }
         }
     }
 
-    /// A turn.
-    fn turn(&mut self) -> Result<Sequence<Output>, Memory>
+    /// A turn: first the locks are renewed that are due.
+    fn turn(&mut self, now: u64) -> Result<Sequence<Output>, Memory>
         requires { HasRoom self.old }
-        ensures gives { IfOk result (λ given. given ≡ outputs_of self.old (turns (setup self.old) rows self.old.no self.old.agent)) }
-        ensures after { OnOk result (self.new ≡ record self.old { agent = (turns (setup self.old) rows self.old.no self.old.agent).agent }) }
+        ensures gives { IfOk result (λ given. given ≡ outputs_of self.old
+            (turns (setup self.old) rows self.old.no self.old.agent (given_now now []))) }
+        ensures after { OnOk result (self.new ≡ record self.old {
+          agent = (turns (setup self.old) rows self.old.no self.old.agent (given_now now [])).agent;
+        }) }
+        ensures asks { IfOk result (λ given. All (FitsOutput self.old.header.f) given) }
+    {
+        let mut given = self.renew_due(now)?;
+        let more = self.turn_work()?;
+        extend(&mut given, more)?;
+        Ok(given)
+    }
+
+    /// A turn of the open or the upload.
+    fn turn_work(&mut self) -> Result<Sequence<Output>, Memory>
+        requires room { MayDraw self.old }
+        requires turns { MayTurn self.old.inputs self.old.agent.closed }
+        ensures gives { IfOk result (λ given. given ≡ outputs_of self.old
+            (to_work self.old.agent (open_turns (setup self.old) rows self.old.no) (upload_turns (setup self.old) self.old.no))) }
+        ensures after { OnOk result (self.new ≡ record self.old {
+          agent = (to_work self.old.agent (open_turns (setup self.old) rows self.old.no) (upload_turns (setup self.old) self.old.no)).agent;
+        }) }
         ensures asks { IfOk result (λ given. All (FitsOutput self.old.header.f) given) }
     {
         match mem::replace(&mut self.work, Work::Idle) {
-            Work::Idle => Ok(Sequence::new(self.alloc)),
-            Work::Step => {
-                self.work = Work::Step;
-                Ok(Sequence::new(self.alloc))
-            }
             Work::Fetch(fetch) => self.turned_fetch(fetch),
             Work::Upload(upload) => self.turned_upload(upload),
+            other => {
+                self.work = other;
+                Ok(Sequence::new(self.alloc))
+            }
         }
     }
 
@@ -244,7 +273,7 @@ impl Agent {
 
     /// It asks a step of the space.
     pub(crate) fn ask(&mut self, asking: Asking) -> Result<Sequence<Output>, Memory>
-        requires room { self.old.agent.requests + 1 ≤ 32 * self.old.inputs }
+        requires room { self.old.agent.requests + 1 ≤ 2000000 * self.old.inputs }
         requires asking { FitsAsking asking }
         requires calls { calls_in self.old.agent.pending + cond (is_call (step_of asking)) 1 0 ≤ calls_of self.old.agent.waiting }
         ensures gives { IfOk result (λ given. given ≡ outputs_of self.old (asks_step self.old.no self.old.agent (step_of asking))) }
@@ -275,6 +304,10 @@ impl Agent {
             }
             Asking::Commit(session, row) => commit(alloc, row, *session),
             Asking::Unlock(id, session) => unlock(alloc, *id, agent, incarnation, *session),
+            Asking::UnlockAll => unlock_all(alloc, agent),
+            Asking::Renew(id, session) => {
+                renew(alloc, *id, agent, incarnation, *session, self.header.lease)
+            }
         }
     }
 
@@ -282,14 +315,14 @@ impl Agent {
     pub fn waits(&self) -> bool
         ensures { result ≡ is_some self.now.agent.waiting }
     {
-        !matches!(self.work, Work::Idle)
+        matches!(self.work, Work::Step | Work::Fetch(_) | Work::Upload(_))
     }
 
     /// Whether it is up.
     pub fn is_up(&self) -> bool
-        ensures { result ≡ true }
+        ensures { result ≡ is_up self.now.agent.life }
     {
-        true
+        !matches!(self.work, Work::Down)
     }
 
     /// The incarnation: how often the agent was started.

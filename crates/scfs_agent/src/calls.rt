@@ -4,6 +4,7 @@ ghost use Rattle.std.specs.Str.{is_utf8};
 ghost use Rattle.scfs_session.specs.Open.{session_of, read_answer, after_write, after_truncate};
 ghost use Rattle.scfs_schedule.specs.declared.types.Call.TheVariants as calls;
 ghost use Rattle.scfs_model.specs.Lists.{if_some};
+ghost use Rattle.scfs_model.specs.Lives.{is_ready};
 ghost use Rattle.scfs_model.specs.Names.{file_id};
 ghost use Rattle.scfs_model.specs.Paths.{names_of};
 ghost use Rattle.scfs_model.specs.Steps.{On_sessions};
@@ -31,7 +32,7 @@ use std::mem;
 const SESSIONS_LIMIT: u64 = 64;
 
 impl Agent {
-    /// A user's call: Busy while another is unanswered.
+    /// A user's call: Busy while another is unanswered, and Starting before the agent is ready.
     pub(crate) fn call(&mut self, call: &Call) -> Result<Sequence<Output>, Memory>
         requires { HasRoom self.old }
         ensures gives { IfOk result (λ given. given ≡ outputs_of self.old
@@ -41,8 +42,11 @@ impl Agent {
         }) }
         ensures asks { IfOk result (λ given. All (FitsOutput self.old.header.f) given) }
     {
-        if !self.is_idle() {
+        if self.waits() {
             return self.refuse(Refusal::Busy);
+        }
+        if !self.is_idle() {
+            return self.refuse(Refusal::Starting(0));
         }
         match call {
             Call::Close(session) => self.close(*session),
@@ -50,17 +54,12 @@ impl Agent {
         }
     }
 
-    /// Whether no call is unanswered: then nothing is uploaded, and no call waits for a step.
+    /// Whether it is ready, and no call is unanswered: then nothing is uploaded, and no call waits for a step.
     fn is_idle(&self) -> bool
         ensures idle { result ≡ true → IsIdle self.now }
-        ensures busy { result ≡ false → is_some self.now.agent.waiting ≡ true }
+        ensures other { result ≡ false → is_some self.now.agent.waiting ≡ false → is_ready self.now.agent.life ≡ false }
     {
-        match &self.work {
-            Work::Idle => true,
-            Work::Step => false,
-            Work::Fetch(_fetch) => false,
-            Work::Upload(_upload) => false,
-        }
+        matches!(self.work, Work::Idle)
     }
 
     /// A call other than a close that comes while none is unanswered.
@@ -308,7 +307,8 @@ fn path_below(alloc: Global, bytes: &[u8]) -> Result<Option<Path>, Memory>
 
 /// What an open asks.
 fn opening(path: Path, session: u64, writes: bool) -> Asking
-    requires { path ≢ [] }
+    requires path { path ≢ [] }
+    requires session { 1 ≤ session }
     ensures step { step_of result ≡ On_sessions (open_step writes path session) }
     ensures fits { FitsAsking result }
 {

@@ -1,17 +1,18 @@
-ghost use Rattle.std.specs.Prelude.{◌≡◌, ◌<◌, ◌+◌, ◌*◌, ◌≤◌, [], length, filter, map, not, IfOk, OnOk};
+ghost use Rattle.std.specs.Prelude.{◌≡◌, ◌<◌, ◌+◌, ◌*◌, ◌≤◌, [], length, filter, map, not, None, IfOk, OnOk};
 ghost use Rattle.std.specs.List.{All};
 ghost use Rattle.scfs_base.specs.Limits.{contents_limit};
 ghost use Rattle.scfs_policy.specs.declared.rank.RankFacts.{RankFacts};
 ghost use Rattle.scfs_quorum_read.specs.Reading.{is_among};
 ghost use Rattle.scfs_model.specs.Layers.{rows};
+ghost use Rattle.scfs_model.specs.Leases.{unleased};
 ghost use Rattle.scfs_model.specs.Opens.{opened, begins_open, asks_gets, reads, open_hears, open_turns, gives_up, tallied, one_more};
 ghost use Rattle.scfs_agent.specs.State.{setup, given_now};
 ghost use Rattle.scfs_agent.specs.Views.{row_of, opening_of, next_of};
 ghost use Rattle.scfs_agent.specs.Outputs.{outputs_of};
-ghost use Rattle.scfs_agent.specs.Keeping.{FitsOutput, IsFetch, IsFetchAsking, IsFree, IsRow, HasRead, HaveRoom};
+ghost use Rattle.scfs_agent.specs.Keeping.{FitsOutput, IsFetch, IsFetchAsking, IsFree, IsRow, HasRead, HaveRoom, MayDraw};
 
 use crate::ordering::order_by;
-use crate::outputs::{after_line, alone, append, get_outputs, is_answer_to, numbered};
+use crate::outputs::{alone, append, get_outputs, is_answer_to, numbered};
 use crate::work::{Asking, Fetch, Work};
 use crate::{Agent, Output};
 use scfs_anchor::VersionRow;
@@ -81,7 +82,7 @@ impl Agent {
         row: &VersionRow,
     ) -> Result<Sequence<Output>, Memory>
         requires free { IsFree self.old }
-        requires room { self.old.agent.requests + 32 ≤ 32 * self.old.inputs }
+        requires room { MayDraw self.old }
         requires ranks { length ranks.now ≡ 3 * self.old.header.f + 1 }
         requires row { IsRow row.now }
         ensures gives { IfOk result (λ given. given ≡ outputs_of self.old
@@ -117,7 +118,7 @@ impl Agent {
     /// Asks further Gets of these clouds.
     fn ask_gets(&mut self, mut fetch: Fetch, clouds: &[u8]) -> Result<Sequence<Output>, Memory>
         requires free { IsFree self.old }
-        requires room { self.old.agent.requests + 32 ≤ 32 * self.old.inputs }
+        requires room { MayDraw self.old }
         requires fetch { IsFetchAsking self.old.header.f fetch clouds.now }
         requires few { length clouds.now ≤ 10 }
         requires clouds { All (λ c. c < 3 * self.old.header.f + 1) clouds.now }
@@ -152,7 +153,7 @@ impl Agent {
         answer: &CloudAnswer,
     ) -> Result<Sequence<Output>, Memory>
         requires free { IsFree self.old }
-        requires room { self.old.agent.requests + 32 ≤ 32 * self.old.inputs }
+        requires room { MayDraw self.old }
         requires tallies { HaveRoom self.old.inputs self.old.agent.tallies }
         requires fetch { IsFetch self.old.header.f fetch }
         requires cloud { cloud < 3 * self.old.header.f + 1 }
@@ -184,7 +185,7 @@ impl Agent {
     /// What an answer brought.
     fn reads(&mut self, fetch: Fetch, step: ReadStep) -> Result<Sequence<Output>, Memory>
         requires free { IsFree self.old }
-        requires room { self.old.agent.requests + 32 ≤ 32 * self.old.inputs }
+        requires room { MayDraw self.old }
         requires fetch { HasRead self.old.header.f fetch step }
         ensures gives { IfOk result (λ given. given ≡ outputs_of self.old
             (reads (setup self.old) rows self.old.no self.old.agent (opening_of fetch) (next_of step))) }
@@ -213,7 +214,7 @@ impl Agent {
     /// A turn of an open.
     pub(crate) fn turned_fetch(&mut self, mut fetch: Fetch) -> Result<Sequence<Output>, Memory>
         requires free { IsFree self.old }
-        requires room { self.old.agent.requests + 32 ≤ 32 * self.old.inputs }
+        requires room { MayDraw self.old }
         requires fetch { IsFetch self.old.header.f fetch }
         ensures gives { IfOk result (λ given. given ≡ outputs_of self.old
             (open_turns (setup self.old) rows self.old.no self.old.agent (opening_of fetch))) }
@@ -229,10 +230,19 @@ impl Agent {
         }
     }
 
+    /// The call for a session is given up, and its lock, if it has one, is not renewed any more.
+    pub(crate) fn give_up(&mut self, session: u64)
+        requires { IsFree self.old }
+        ensures { self.new ≡ record self.old { agent = record (unleased self.old.agent session) { waiting = None } } }
+    {
+        self.work = Work::Idle;
+        self.leases.given_back(session);
+    }
+
     /// An open is given up: its refusal, and where it has a lock, the unlock, which no call waits for.
     fn give_up_open(&mut self, fetch: &Fetch, good: u8) -> Result<Sequence<Output>, Memory>
         requires free { IsFree self.old }
-        requires room { self.old.agent.requests + 32 ≤ 32 * self.old.inputs }
+        requires room { MayDraw self.old }
         ensures gives { IfOk result (λ given. given ≡ outputs_of self.old
             (gives_up (setup self.old) rows self.old.no self.old.agent (opening_of fetch.now) good)) }
         ensures after { OnOk result (self.new ≡ record self.old {
@@ -240,16 +250,14 @@ impl Agent {
         }) }
         ensures asks { IfOk result (λ given. All (FitsOutput self.old.header.f) given) }
     {
-        self.work = Work::Idle;
-        let line = Line::No(
-            self.no,
-            Refusal::Unavailable(u64::from(fetch.row.number), good),
-        );
-        if !fetch.writes {
-            return alone(self.alloc, Output::Line(line));
+        self.give_up(fetch.session);
+        let mut given = Sequence::new(self.alloc);
+        if fetch.writes {
+            given = self.ask(Asking::Unlock(fetch.row.id, fetch.session))?;
         }
-        let asked = self.ask(Asking::Unlock(fetch.row.id, fetch.session))?;
-        after_line(self.alloc, line, asked)
+        let why = Refusal::Unavailable(u64::from(fetch.row.number), good);
+        given.push(Output::Line(Line::No(self.no, why)))?;
+        Ok(given)
     }
 }
 

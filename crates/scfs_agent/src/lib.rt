@@ -4,6 +4,8 @@
 mod agent;
 mod calls;
 mod fetching;
+mod leasing;
+mod lives;
 mod ordering;
 mod outputs;
 mod told;

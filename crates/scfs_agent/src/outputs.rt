@@ -27,11 +27,19 @@ pub fn after_line(
     ensures { IfOk result (λ given. given ≡ Output.Line line ∷ more) }
 {
     let mut given = alone(alloc, Output::Line(line))?;
+    extend(&mut given, more)?;
+    Ok(given)
+}
+
+/// Puts further outputs behind others.
+pub fn extend(all: &mut Sequence<Output>, more: Sequence<Output>) -> Result<(), Memory>
+    ensures { OnOk result (all.new ≡ all.old ++ more) }
+{
     let mut left = more;
     'each: while let Some(output) = left.pop_front() {
-        given.push(output)?;
+        all.push(output)?;
     }
-    Ok(given)
+    Ok(())
 }
 
 /// Whether two requests have one number.

@@ -3,7 +3,7 @@ ghost use Rattle.std.specs.List.{All};
 ghost use Rattle.scfs_policy.specs.Rank.{IsRankRule};
 ghost use Rattle.scfs_anchor.specs.StepPlans.{step_on_tuples};
 ghost use Rattle.scfs_anchor.specs.StepReplies.{IsReplyTo, FitsOutcome, IsNameReply, FitsNames, IsSessionReply, FitsSessions};
-ghost use Rattle.scfs_anchor.specs.Replies.{refusal_in};
+ghost use Rattle.scfs_anchor.specs.Replies.{refusal_in, sight_of};
 ghost use Rattle.scfs_model.specs.Layers.{Row, rows};
 ghost use Rattle.scfs_model.specs.Walks.{OrRefusal};
 ghost use Rattle.scfs_model.specs.NameSteps.{Make, Look, Name_outcome};
@@ -17,8 +17,8 @@ ghost use Rattle.scfs_model.specs.Told.{tells, told, told_open, told_commit, tol
 ghost use Rattle.scfs_agent.specs.State.{setup, given_now};
 ghost use Rattle.scfs_agent.specs.Views.{step_of, request_of, row_of, closed_of};
 ghost use Rattle.scfs_agent.specs.Outputs.{outputs_of};
-ghost use Rattle.scfs_agent.specs.Keeping.{FitsOutput, FitsAsking, HasRoom, IsFree, IsRow, is_call};
-ghost use Rattle.scfs_agent.specs.Telling.{IsTold, outcome_step, pending_step, reads_version, shows_version, has_version, is_open, kind_of, stat_line, first_place, is_numbered, FitsSeen, sight_meant, found_of, open_step};
+ghost use Rattle.scfs_agent.specs.Keeping.{FitsOutput, FitsAsking, HasRoom, IsFree, IsRow, Keeps, MayDraw, is_call};
+ghost use Rattle.scfs_agent.specs.Telling.{IsTold, FitsReply, outcome_step, pending_step, reads_version, shows_version, has_version, is_open, kind_of, stat_line, first_place, is_numbered, FitsSeen, sight_meant, found_of, open_step};
 
 use crate::outputs::{after_line, alone, same_request};
 use crate::work::{Asking, Pending, Upload, Work};
@@ -56,7 +56,8 @@ fn is_open(asking: &Asking) -> bool
         Asking::Make(_path, _id) => false,
         Asking::Look(_path) => false,
         Asking::Commit(_session, _row) => false,
-        Asking::Unlock(_id, _session) => false,
+        Asking::Unlock(_id, _session) | Asking::Renew(_id, _session) => false,
+        Asking::UnlockAll => false,
     }
 }
 
@@ -166,14 +167,17 @@ impl Agent {
         reply: &Reply,
     ) -> Result<Sequence<Output>, Memory>
         requires room { HasRoom self.old }
-        requires told { (o : Outcome Row) × IsTold self.old request reply.now o }
+        requires reply { FitsReply (pending_step self.old.agent.pending request) reply.now }
         requires ranks { reads_version (pending_step self.old.agent.pending request) reply.now.result ≡ true
             → length ranks.now ≡ 3 * self.old.header.f + 1 }
-        ensures gives { (o : Outcome Row) → IsTold self.old request reply.entry.now o → IfOk result (λ given. given ≡ outputs_of self.old
+        ensures gives { (o : Outcome Row) → IsTold self.old.header.lease self.old.agent.pending request reply.entry.now o
+            → IfOk result (λ given. given ≡ outputs_of self.old
             (tells (setup self.old) rows self.old.no self.old.agent (given_now now ranks.now) request o)) }
-        ensures after { (o : Outcome Row) → IsTold self.old request reply.entry.now o → OnOk result (self.new ≡ record self.old {
-          agent = (tells (setup self.old) rows self.old.no self.old.agent (given_now now ranks.now) request o).agent;
-        }) }
+        ensures after { (o : Outcome Row) → IsTold self.old.header.lease self.old.agent.pending request reply.entry.now o
+            → OnOk result (self.new ≡ record self.old {
+              agent = (tells (setup self.old) rows self.old.no self.old.agent (given_now now ranks.now) request o).agent;
+            }) }
+        ensures keeps { OnOk result (Keeps self.old self.new) }
         ensures asks { IfOk result (λ given. All (FitsOutput self.old.header.f) given) }
     {
         let at = place_of(self.pending.as_slice(), request);
@@ -193,10 +197,10 @@ impl Agent {
         asking: &Asking,
         reply: &Reply,
     ) -> Result<Sequence<Output>, Memory>
-        requires room { self.old.agent.requests + 32 ≤ 32 * self.old.inputs }
+        requires room { MayDraw self.old }
         requires asking { FitsAsking asking.now }
-        requires told { (o : Outcome Row) × (outcome_step o ≡ step_of asking.now)
-            × IsReplyTo self.old.header.lease request o reply.now × FitsOutcome o }
+        requires leases { length self.old.agent.leases + 1 ≤ self.old.inputs }
+        requires reply { is_open (step_of asking.now) ≡ true → FitsSeen (sight_of reply.now.result) }
         requires call { is_call (step_of asking.now) ≡ true → IsFree self.old }
         requires ranks { (is_open (step_of asking.now) && shows_version reply.now.result) ≡ true
             → length ranks.now ≡ 3 * self.old.header.f + 1 }
@@ -207,6 +211,7 @@ impl Agent {
             → FitsOutcome o → OnOk result (self.new ≡ record self.old {
               agent = (told (setup self.old) rows self.old.no self.old.agent (given_now now ranks.now) request o).agent;
             }) }
+        ensures keeps { OnOk result (Keeps self.old self.new) }
         ensures asks { IfOk result (λ given. All (FitsOutput self.old.header.f) given) }
     {
         match asking {
@@ -222,6 +227,8 @@ impl Agent {
                 self.told_commit(request, asking, *session, row, reply)
             }
             Asking::Unlock(_id, _session) => Ok(Sequence::new(self.alloc)),
+            Asking::UnlockAll => self.told_start(request, reply),
+            Asking::Renew(id, session) => self.told_renewal(request, *id, *session, reply),
         }
     }
 
@@ -311,21 +318,25 @@ impl Agent {
         writes: bool,
         reply: &Reply,
     ) -> Result<Sequence<Output>, Memory>
-        requires room { self.old.agent.requests + 32 ≤ 32 * self.old.inputs }
+        requires room { MayDraw self.old }
         requires asking { FitsAsking asking.now }
-        requires told { (names : List (List ℕ)) × (r : OrRefusal (Session_outcome Row)) × (On_sessions (open_step writes names session) ≡ step_of asking.now)
-            × IsSessionReply self.old.header.lease request (open_step writes names session) r reply.now × FitsSessions (open_step writes names session) r }
+        requires leases { length self.old.agent.leases + 1 ≤ self.old.inputs }
+        requires session { 1 ≤ session }
+        requires seen { FitsSeen (sight_of reply.now.result) }
         requires free { IsFree self.old }
         requires ranks { shows_version reply.now.result ≡ true → length ranks.now ≡ 3 * self.old.header.f + 1 }
-        ensures gives { (names : List (List ℕ)) (r : OrRefusal (Session_outcome Row)) → On_sessions (open_step writes names session) ≡ step_of asking.now
+        ensures gives { (names : List (List ℕ)) (r : OrRefusal (Session_outcome Row))
+            → On_sessions (open_step writes names session) ≡ step_of asking.now
             → IsSessionReply self.old.header.lease request (open_step writes names session) r reply.entry.now
             → FitsSessions (open_step writes names session) r → IfOk result (λ given. given ≡ outputs_of self.old
             (told_open (setup self.old) rows self.old.no self.old.agent (given_now now ranks.now) request session r)) }
-        ensures after { (names : List (List ℕ)) (r : OrRefusal (Session_outcome Row)) → On_sessions (open_step writes names session) ≡ step_of asking.now
+        ensures after { (names : List (List ℕ)) (r : OrRefusal (Session_outcome Row))
+            → On_sessions (open_step writes names session) ≡ step_of asking.now
             → IsSessionReply self.old.header.lease request (open_step writes names session) r reply.entry.now
             → FitsSessions (open_step writes names session) r → OnOk result (self.new ≡ record self.old {
               agent = (told_open (setup self.old) rows self.old.no self.old.agent (given_now now ranks.now) request session r).agent;
             }) }
+        ensures keeps { OnOk result (Keeps self.old self.new) }
         ensures asks { IfOk result (λ given. All (FitsOutput self.old.header.f) given) }
     {
         match &reply.result {
@@ -338,6 +349,9 @@ impl Agent {
                 taken: _,
                 rows: _,
             } => {
+                if writes {
+                    self.lease(session, reply.now.saturating_add(self.header.lease))?;
+                }
                 let seen = sight_of(&reply.result);
                 self.saw(now, ranks, request, session, writes, &seen)
             }
@@ -354,14 +368,15 @@ impl Agent {
         writes: bool,
         seen: &Sight,
     ) -> Result<Sequence<Output>, Memory>
-        requires room { self.old.agent.requests + 32 ≤ 32 * self.old.inputs }
+        requires room { MayDraw self.old }
         requires fits { FitsSeen seen.now }
         requires free { IsFree self.old }
         requires ranks { has_version seen.now ≡ true → length ranks.now ≡ 3 * self.old.header.f + 1 }
         ensures gives { IfOk result (λ given. given ≡ outputs_of self.old
             (saw (setup self.old) rows self.old.no self.old.agent (given_now now ranks.now) request session writes (sight_meant seen.now))) }
         ensures after { OnOk result (self.new ≡ record self.old {
-          agent = (saw (setup self.old) rows self.old.no self.old.agent (given_now now ranks.now) request session writes (sight_meant seen.now)).agent;
+          agent = (saw (setup self.old) rows self.old.no self.old.agent (given_now now ranks.now)
+              request session writes (sight_meant seen.now)).agent;
         }) }
         ensures asks { IfOk result (λ given. All (FitsOutput self.old.header.f) given) }
     {
@@ -379,7 +394,7 @@ impl Agent {
         writes: bool,
         seen: &Sight,
     ) -> Result<Sequence<Output>, Memory>
-        requires room { self.old.agent.requests + 32 ≤ 32 * self.old.inputs }
+        requires room { MayDraw self.old }
         requires fits { FitsSeen seen.now }
         requires free { IsFree self.old }
         requires ranks { has_version seen.now ≡ true → length ranks.now ≡ 3 * self.old.header.f + 1 }
@@ -411,26 +426,28 @@ impl Agent {
     ) -> Result<Sequence<Output>, Memory>
         requires asking { FitsAsking asking.now }
         requires commit { asking.now ≡ Asking.Commit session row.now }
-        ensures gives { (r : OrRefusal (Session_outcome Row)) → IsSessionReply self.old.header.lease request (Commit session (row_of row.now)) r reply.entry.now
+        ensures gives { (r : OrRefusal (Session_outcome Row))
+            → IsSessionReply self.old.header.lease request (Commit session (row_of row.now)) r reply.entry.now
             → FitsSessions (Commit session (row_of row.now)) r → IfOk result (λ given. given ≡ outputs_of self.old
             (told_commit (setup self.old) rows self.old.no self.old.agent self.old.agent.closed r)) }
-        ensures after { (r : OrRefusal (Session_outcome Row)) → IsSessionReply self.old.header.lease request (Commit session (row_of row.now)) r reply.entry.now
+        ensures after { (r : OrRefusal (Session_outcome Row))
+            → IsSessionReply self.old.header.lease request (Commit session (row_of row.now)) r reply.entry.now
             → FitsSessions (Commit session (row_of row.now)) r → OnOk result (self.new ≡ record self.old {
               agent = (told_commit (setup self.old) rows self.old.no self.old.agent self.old.agent.closed r).agent;
             }) }
+        ensures keeps { OnOk result (Keeps self.old self.new) }
         ensures asks { IfOk result (λ given. All (FitsOutput self.old.header.f) given) }
     {
         match mem::replace(&mut self.work, Work::Idle) {
-            Work::Idle => Ok(Sequence::new(self.alloc)),
-            Work::Step => {
-                self.work = Work::Step;
+            Work::Upload(upload) => {
+                let given = self.completed(request, asking, session, row, &upload, reply)?;
+                self.leases.given_back(upload.session);
+                Ok(given)
+            }
+            other => {
+                self.work = other;
                 Ok(Sequence::new(self.alloc))
             }
-            Work::Fetch(fetch) => {
-                self.work = Work::Fetch(fetch);
-                Ok(Sequence::new(self.alloc))
-            }
-            Work::Upload(upload) => self.completed(request, asking, session, row, &upload, reply),
         }
     }
 
@@ -446,7 +463,8 @@ impl Agent {
     ) -> Result<Sequence<Output>, Memory>
         requires asking { FitsAsking asking.now }
         requires commit { asking.now ≡ Asking.Commit session row.now }
-        ensures gives { (r : OrRefusal (Session_outcome Row)) → IsSessionReply self.now.header.lease request (Commit session (row_of row.now)) r reply.entry.now
+        ensures gives { (r : OrRefusal (Session_outcome Row))
+            → IsSessionReply self.now.header.lease request (Commit session (row_of row.now)) r reply.entry.now
             → FitsSessions (Commit session (row_of row.now)) r → IfOk result (λ given. given ≡ outputs_of self.now
             (told_closed (setup self.now) rows self.now.no (record self.now.agent { waiting = Some For_close }) (closed_of upload.now) r)) }
         ensures asks { IfOk result (λ given. All (FitsOutput self.now.header.f) given) }

@@ -1,24 +1,23 @@
 ghost use Rattle.std.specs.Prelude.{◌≡◌, ◌<◌, ◌+◌, ◌*◌, ◌≤◌, ◌^◌, [], length, filter, not, ◌&&◌, Some, None, IfOk, OnOk};
 ghost use Rattle.std.specs.List.{All};
-ghost use Rattle.std.specs.FinSet as set;
 ghost use Rattle.scfs_base.specs.Limits.{contents_limit};
-ghost use Rattle.scfs_quorum_write.specs.Acks.{clouds_of, count_of};
+ghost use Rattle.scfs_quorum_write.specs.Acks.{count_of};
 ghost use Rattle.scfs_model.specs.Asked as machine;
-ghost use Rattle.scfs_model.specs.Lists.{below};
+ghost use Rattle.scfs_model.specs.Lists.{below, is_in};
 ghost use Rattle.scfs_model.specs.Names.{upload_no};
 ghost use Rattle.scfs_model.specs.Format.{sealed};
 ghost use Rattle.scfs_model.specs.Layers.{rows};
 ghost use Rattle.scfs_model.specs.Storing.{is_ack};
 ghost use Rattle.scfs_model.specs.Agents.{For_close};
-ghost use Rattle.scfs_model.specs.Closes.{begins, asks_puts, upload_hears, upload_turns, falls_short};
+ghost use Rattle.scfs_model.specs.Closes.{begins, goes_on, asks_puts, stores, upload_hears, upload_turns, falls_short};
 ghost use Rattle.scfs_anchor.specs.Holding as holding;
 ghost use Rattle.scfs_agent.specs.State.{setup};
-ghost use Rattle.scfs_agent.specs.Views.{asked_of, row_of, left_session, upload_of, closed_of};
+ghost use Rattle.scfs_agent.specs.Views.{asked_of, acked_of, row_of, left_session, upload_of, closed_of, acked_next};
 ghost use Rattle.scfs_agent.specs.Outputs.{outputs_of};
 ghost use Rattle.scfs_agent.specs.Asking.{MayClose};
-ghost use Rattle.scfs_agent.specs.Keeping.{FitsOutput, IsFree, IsUpload};
+ghost use Rattle.scfs_agent.specs.Keeping.{FitsOutput, IsFree, IsUpload, MayDraw};
 
-use crate::outputs::{after_line, alone, append, is_answer_to, numbered, put_outputs};
+use crate::outputs::{append, is_answer_to, numbered, put_outputs};
 use crate::work::{Asked, Asking, Upload, Work};
 use crate::{Agent, Output};
 use scfs_anchor::VersionRow;
@@ -43,22 +42,6 @@ fn all_clouds(alloc: Global, f: u8) -> Result<Sequence<u8>, Memory>
     let mut clouds = Sequence::new(alloc);
     for cloud in 0..3 * f + 1 {
         clouds.push(cloud)?;
-    }
-    Ok(clouds)
-}
-
-/// The clouds that did not acknowledge an upload.
-fn missing(alloc: Global, f: u8, acks: &PutTracker) -> Result<Sequence<u8>, Memory>
-    requires f { acks.now.f ≡ f }
-    requires high { f ≤ 3 }
-    requires part { 0 < length acks.now.parts }
-    ensures { IfOk result (λ clouds. clouds ≡ filter (λ c. not (set.contains (clouds_of acks.now 0) c)) (below (3 * f + 1))) }
-{
-    let mut clouds = Sequence::new(alloc);
-    for cloud in 0..3 * f + 1 {
-        if acks.missing(cloud, 0) {
-            clouds.push(cloud)?;
-        }
     }
     Ok(clouds)
 }
@@ -88,7 +71,7 @@ impl Agent {
     /// The upload of a closed session begins: its number is drawn, it is sealed, and its Puts are asked of all clouds.
     pub(crate) fn begin(&mut self, session: u64, left: Ended) -> Result<Sequence<Output>, Memory>
         requires free { IsFree self.old }
-        requires room { self.old.agent.requests + 32 ≤ 32 * self.old.inputs }
+        requires room { MayDraw self.old }
         requires count { self.old.agent.uploads + 1 ≤ self.old.inputs }
         requires short { length left.contents ≤ contents_limit }
         requires base { left.base ≤ 1000000 }
@@ -164,14 +147,16 @@ impl Agent {
     /// Asks Puts of these clouds.
     fn ask_puts(&mut self, mut upload: Upload, clouds: &[u8]) -> Result<Sequence<Output>, Memory>
         requires free { IsFree self.old }
-        requires room { self.old.agent.requests + 32 ≤ 32 * self.old.inputs }
+        requires room { MayDraw self.old }
         requires upload { IsUpload self.old.no self.old.agent.incarnation self.old.header.f self.old.inputs upload }
         requires few { length clouds.now ≤ 10 }
         requires clouds { All (λ c. c < 3 * self.old.header.f + 1) clouds.now }
         ensures gives { IfOk result (λ given. given ≡ outputs_of self.old
-            (asks_puts (setup self.old) self.old.no (record self.old.agent { waiting = Some For_close }) (closed_of upload) (upload_of upload) clouds.now)) }
+            (asks_puts (setup self.old) self.old.no
+            (record self.old.agent { waiting = Some For_close }) (closed_of upload) (upload_of upload) clouds.now)) }
         ensures after { OnOk result (self.new ≡ record self.old {
-          agent = (asks_puts (setup self.old) self.old.no (record self.old.agent { waiting = Some For_close }) (closed_of upload) (upload_of upload) clouds.now).agent;
+          agent = (asks_puts (setup self.old) self.old.no
+              (record self.old.agent { waiting = Some For_close }) (closed_of upload) (upload_of upload) clouds.now).agent;
         }) }
         ensures asks { IfOk result (λ given. All (FitsOutput self.old.header.f) given) }
     {
@@ -179,7 +164,7 @@ impl Agent {
         let given = put_outputs(self.alloc, upload.row.upload, &upload.unit, puts.as_slice())?;
         append(&mut upload.puts, puts.as_slice())?;
         self.requests += puts.len() as u64;
-        self.work = Work::Upload(upload);
+        self.goes_on(upload);
         Ok(given)
     }
 
@@ -192,43 +177,70 @@ impl Agent {
         answer: &CloudAnswer,
     ) -> Result<Sequence<Output>, Memory>
         requires free { IsFree self.old }
-        requires room { self.old.agent.requests + 32 ≤ 32 * self.old.inputs }
+        requires room { MayDraw self.old }
         requires upload { IsUpload self.old.no self.old.agent.incarnation self.old.header.f self.old.inputs upload }
         requires cloud { cloud < 3 * self.old.header.f + 1 }
         ensures gives { IfOk result (λ given. given ≡ outputs_of self.old
-            (upload_hears (setup self.old) self.old.no (record self.old.agent { waiting = Some For_close }) (closed_of upload) (upload_of upload) cloud request answer.now)) }
+            (upload_hears (setup self.old) self.old.no
+            (record self.old.agent { waiting = Some For_close }) (closed_of upload) (upload_of upload) cloud request answer.now)) }
         ensures after { OnOk result (self.new ≡ record self.old {
-          agent = (upload_hears (setup self.old) self.old.no (record self.old.agent { waiting = Some For_close }) (closed_of upload) (upload_of upload) cloud request answer.now).agent;
+          agent = (upload_hears (setup self.old) self.old.no
+              (record self.old.agent { waiting = Some For_close }) (closed_of upload) (upload_of upload) cloud request answer.now).agent;
         }) }
         ensures asks { IfOk result (λ given. All (FitsOutput self.old.header.f) given) }
     {
         if !acknowledges(upload.puts.as_slice(), cloud, request, answer) {
-            self.work = Work::Upload(upload);
+            self.goes_on(upload);
             return Ok(Sequence::new(self.alloc));
         }
-        match upload.acks.acked(cloud, 0) {
-            Progress::Done => {
-                let asking = Asking::Commit(upload.session, upload.row);
-                self.work = Work::Upload(upload);
-                self.ask(asking)
-            }
-            Progress::Already | Progress::Counted(_) => {
-                self.work = Work::Upload(upload);
-                Ok(Sequence::new(self.alloc))
-            }
+        let progress = upload.acks.acked(cloud, 0);
+        self.stores(upload, progress)
+    }
+
+    /// What an acknowledgement leads to.
+    fn stores(&mut self, upload: Upload, progress: Progress) -> Result<Sequence<Output>, Memory>
+        requires free { IsFree self.old }
+        requires room { MayDraw self.old }
+        requires upload { IsUpload self.old.no self.old.agent.incarnation self.old.header.f self.old.inputs upload }
+        ensures gives { IfOk result (λ given. given ≡ outputs_of self.old
+            (stores (setup self.old) self.old.no
+            (record self.old.agent { waiting = Some For_close }) (closed_of upload) (upload_of upload) (acked_next progress))) }
+        ensures after { OnOk result (self.new ≡ record self.old {
+          agent = (stores (setup self.old) self.old.no
+              (record self.old.agent { waiting = Some For_close }) (closed_of upload) (upload_of upload) (acked_next progress)).agent;
+        }) }
+        ensures asks { IfOk result (λ given. All (FitsOutput self.old.header.f) given) }
+    {
+        let asking = Asking::Commit(upload.session, upload.row);
+        self.goes_on(upload);
+        match progress {
+            Progress::Done => self.ask(asking),
+            Progress::Already | Progress::Counted(_) => Ok(Sequence::new(self.alloc)),
         }
+    }
+
+    /// It goes on with its upload.
+    fn goes_on(&mut self, upload: Upload)
+        requires free { IsFree self.old }
+        requires upload { IsUpload self.old.no self.old.agent.incarnation self.old.header.f self.old.inputs upload }
+        ensures { self.new ≡ record self.old {
+          agent = goes_on (record self.old.agent { waiting = Some For_close }) (closed_of upload) (upload_of upload);
+        } }
+    {
+        self.work = Work::Upload(upload);
     }
 
     /// A turn of an upload: nothing once enough clouds acknowledged; else the eighth is short, and one before it asks again.
     pub(crate) fn turned_upload(&mut self, mut upload: Upload) -> Result<Sequence<Output>, Memory>
         requires free { IsFree self.old }
-        requires room { self.old.agent.requests + 32 ≤ 32 * self.old.inputs }
+        requires room { MayDraw self.old }
         requires upload { IsUpload self.old.no self.old.agent.incarnation self.old.header.f self.old.inputs upload }
         requires turns { upload.turns + 1 ≤ self.old.inputs }
         ensures gives { IfOk result (λ given. given ≡ outputs_of self.old
             (upload_turns (setup self.old) self.old.no (record self.old.agent { waiting = Some For_close }) (closed_of upload) (upload_of upload))) }
         ensures after { OnOk result (self.new ≡ record self.old {
-          agent = (upload_turns (setup self.old) self.old.no (record self.old.agent { waiting = Some For_close }) (closed_of upload) (upload_of upload)).agent;
+          agent = (upload_turns (setup self.old) self.old.no
+              (record self.old.agent { waiting = Some For_close }) (closed_of upload) (upload_of upload)).agent;
         }) }
         ensures asks { IfOk result (λ given. All (FitsOutput self.old.header.f) given) }
     {
@@ -236,20 +248,37 @@ impl Agent {
         upload.turns += 1;
         let acked = upload.acks.count();
         if acked > most {
-            self.work = Work::Upload(upload);
+            self.goes_on(upload);
             return Ok(Sequence::new(self.alloc));
         }
         if upload.turns == TURNS {
             return self.fall_short(&upload, acked);
         }
-        let clouds = missing(self.alloc, self.header.f, &upload.acks)?;
+        let clouds = self.missing(&upload.acks)?;
         self.ask_puts(upload, clouds.as_slice())
+    }
+
+    /// The clouds that did not acknowledge an upload.
+    fn missing(&self, acks: &PutTracker) -> Result<Sequence<u8>, Memory>
+        requires f { acks.now.f ≡ self.now.header.f }
+        requires part { length acks.now.parts ≡ 1 }
+        ensures clouds { IfOk result (λ clouds. clouds ≡ filter (λ c. not (is_in c (acked_of acks.now))) (below (3 * self.now.header.f + 1))) }
+        ensures few { IfOk result (λ clouds. length clouds ≤ 10) }
+        ensures within { IfOk result (λ clouds. All (λ c. c < 3 * self.now.header.f + 1) clouds) }
+    {
+        let mut clouds = Sequence::new(self.alloc);
+        for cloud in 0..3 * self.header.f + 1 {
+            if acks.missing(cloud, 0) {
+                clouds.push(cloud)?;
+            }
+        }
+        Ok(clouds)
     }
 
     /// An upload is given up: its refusal, and the unlock.
     fn fall_short(&mut self, upload: &Upload, acked: u8) -> Result<Sequence<Output>, Memory>
         requires free { IsFree self.old }
-        requires room { self.old.agent.requests + 32 ≤ 32 * self.old.inputs }
+        requires room { MayDraw self.old }
         ensures gives { IfOk result (λ given. given ≡ outputs_of self.old
             (falls_short (setup self.old) self.old.no (record self.old.agent { waiting = Some For_close }) (closed_of upload.now) acked)) }
         ensures after { OnOk result (self.new ≡ record self.old {
@@ -257,8 +286,9 @@ impl Agent {
         }) }
         ensures asks { IfOk result (λ given. All (FitsOutput self.old.header.f) given) }
     {
-        self.work = Work::Idle;
-        let asked = self.ask(Asking::Unlock(upload.left.id, upload.session))?;
-        after_line(self.alloc, Line::No(self.no, Refusal::Short(acked)), asked)
+        self.give_up(upload.session);
+        let mut given = self.ask(Asking::Unlock(upload.left.id, upload.session))?;
+        given.push(Output::Line(Line::No(self.no, Refusal::Short(acked))))?;
+        Ok(given)
     }
 }

@@ -26,6 +26,10 @@ pub enum Asking {
     Commit(u64, VersionRow),
     /// The lock of a session of this number on a file is given back.
     Unlock(FileId, u64),
+    /// All locks of the agent are given back.
+    UnlockAll,
+    /// The lock of a session of this number on a file lives longer.
+    Renew(FileId, u64),
 }
 
 /// A step that was asked of the space and whose reply was not told yet.
@@ -59,9 +63,12 @@ pub struct Upload {
     pub turns: u32,
 }
 
-/// What the unanswered call of an agent waits for: there is none; its step; the clouds; its close.
+/// What an agent is at: it is down; it starts; it is ready, and no call is unanswered, or one is, which waits for its step, for the
+/// clouds, or for its close.
 #[derive(Drop)]
 pub enum Work {
+    Down,
+    Starting,
     Idle,
     Step,
     Fetch(Fetch),

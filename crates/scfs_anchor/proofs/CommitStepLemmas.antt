@@ -2,13 +2,13 @@ use Rattle.std.proofs.Common.{◌≡◌, ℕ, ◌+◌, ◌-◌, List, [], ◌∷
 use Rattle.std.specs.Prelude.{codes}
 use Rattle.std.specs.List.{find}
 use Rattle.std.specs.Option.{option_map}
+use Rattle.std.proofs.lemmas.Bool.{eqb-true}
 use Rattle.scfs_base.specs.declared.naming.FileId.{FileId}
 use Rattle.scfs_base.specs.declared.naming.RequestNo.{RequestNo}
 use Rattle.scfs_schedule.specs.declared.types.Kind.TheVariants.{File}
 use Rattle.scfs_schedule.specs.declared.types.Refusal.TheVariants as refusals
 use Rattle.scfs_tuples.specs.After.{Tested, Passed, Failed, tested, need, result_of, left_by}
 use Rattle.scfs_tuples.specs.Matching.{Match}
-use Rattle.scfs_tuples.specs.Matching as matching
 use Rattle.scfs_tuples.specs.declared.types.Cond.{Cond}
 use Rattle.scfs_tuples.specs.declared.types.Cond.TheVariants as conds
 use Rattle.scfs_tuples.specs.declared.types.Field.{Field}
@@ -18,7 +18,7 @@ use Rattle.scfs_tuples.specs.declared.types.Want.{Want}
 use Rattle.scfs_tuples.specs.declared.types.Want.TheVariants.{Any, Bind}
 use Rattle.scfs_model.specs.Layers.{Row, rows}
 use Rattle.scfs_model.specs.Lists.{without_first}
-use Rattle.scfs_model.specs.Tree.{Node, Lock, node_at, session_lock, is_lock_by, is_node_at}
+use Rattle.scfs_model.specs.Tree.{Node, Lock, Tree, node_at, session_lock, is_lock_by, is_node_at}
 use Rattle.scfs_model.specs.Walks.{OrRefusal, on_ok}
 use Rattle.scfs_model.specs.SessionSteps.{Commit, Session_outcome, Completes, still_held, with_version, session_outcome}
 use Rattle.scfs_anchor.specs.Shapes.{number, node}
@@ -29,11 +29,12 @@ use Rattle.scfs_anchor.specs.Items.{Item, Of_node, Of_version, Of_lock, space_of
 use Rattle.scfs_anchor.specs.StepPlans.{session_plan}
 use Rattle.scfs_anchor.specs.StepReplies.{IsSessionReply, FitsSessions}
 use Rattle.scfs_anchor.specs.Holding.{LockFiles}
-use Rattle.scfs_anchor.proofs.SightLemmas.{number_eq}
-use Rattle.scfs_anchor.proofs.Alike.{is_lock_item, is_node_item, opened_up, SessionsAlike, refused}
+use Rattle.scfs_anchor.proofs.Alike.{lock_that, node_that, opened_up, SessionsAlike, refused}
 use Rattle.scfs_anchor.proofs.ItemLemmas.{flipped, space_append}
-use Rattle.scfs_anchor.proofs.ItemMatches.{Meets, met, said, first_met, without_met, each_of}
-use Rattle.scfs_anchor.proofs.UnlockLemmas.{lock_wants, binds_none, lock_meets, lock_item}
+use Rattle.scfs_anchor.proofs.ItemMatches.{Meets, met, said, take_met, each_of}
+use Rattle.scfs_anchor.proofs.KeptLemmas.{without_lock}
+use Rattle.scfs_anchor.proofs.ListLemmas.{both_true, each_found, found_passes}
+use Rattle.scfs_anchor.proofs.LockStepLemmas.{own_lock, lock_wants, binds_none, lock_meets, lock_item}
 
 -- A close: the session's lock and the file's node as it was go, the node as it is and the version come.
 
@@ -62,48 +63,35 @@ file_items file (Of_version v ∷ items) h = (tt, file_items file items h)
 file_items file (Of_lock l ∷ items) h = (tt, file_items file items h)
 
 -- the pattern of a file's node meets it, and no other item
-node_meets : (file : FileId) (base : ℕ) (x : Item) → IsFileIn file x → Meets (node_wants file base) [] (is_node_item file base) binds_place x
+node_meets : (file : FileId) (base : ℕ) (x : Item) → IsFileIn file x
+    → Meets (node_wants file base) [] (node_that (is_node_at file base)) binds_place x
 node_meets file base (Of_version v) h = refl
 node_meets file base (Of_lock l) h = refl
 node_meets file base (Of_node n) h = here (eqb file.0 n.id.0) (eqb base n.newest) refl refl where
   file_kind : eqb file.0 n.id.0 ≡ true → eqb 1 (kind_number n.kind) ≡ true
-  file_kind e = ap (λ k. eqb 1 (kind_number k)) (h (sym (number_eq file.0 n.id.0 e)))
+  file_kind e = ap (λ k. eqb 1 (kind_number k)) (h (sym (eqb-true file.0 n.id.0 e)))
 
   here : (t u : Bool) → eqb file.0 n.id.0 ≡ t → eqb base n.newest ≡ u
-      → Meets (node_wants file base) [] (is_node_item file base) binds_place (Of_node n)
+      → Meets (node_wants file base) [] (node_that (is_node_at file base)) binds_place (Of_node n)
   here false u e f = rw (e, flipped file.0 n.id.0 false e) refl
   here true false e f = rw (e, file_kind e, f, flipped file.0 n.id.0 true e, flipped base n.newest false f) refl
   here true true e f = rw (e, file_kind e, f, flipped file.0 n.id.0 true e, flipped base n.newest true f) refl
 
 all_meet : (file : FileId) (base : ℕ) (items : List Item) → Each (IsFileIn file) items
-    → Each (Meets (node_wants file base) [] (is_node_item file base) binds_place) items
+    → Each (Meets (node_wants file base) [] (node_that (is_node_at file base)) binds_place) items
 all_meet file base [] h = tt
 all_meet file base (x ∷ items) h = (node_meets file base x h.0, all_meet file base items h.1)
 
--- the first such item is the file's node of that version
-node_item : (file : FileId) (base : ℕ) (items : List Item)
-    → find (is_node_item file base) items ≡ option_map Of_node (node_at (nodes items) file base)
-node_item file base [] = refl
-node_item file base (Of_version v ∷ items) = node_item file base items
-node_item file base (Of_lock l ∷ items) = node_item file base items
-node_item file base (Of_node n ∷ items) = here (is_node_at file base n) refl (node_item file base items) where
-  here : (t : Bool) → is_node_at file base n ≡ t → find (is_node_item file base) items ≡ option_map Of_node (node_at (nodes items) file base)
-      → find (is_node_item file base) (Of_node n ∷ items) ≡ option_map Of_node (node_at (nodes (Of_node n ∷ items)) file base)
+-- the first such item is the first such node
+node_item : (test : Node → Bool) (items : List Item) → find (node_that test) items ≡ option_map Of_node (find test (nodes items))
+node_item test [] = refl
+node_item test (Of_version v ∷ items) = node_item test items
+node_item test (Of_lock l ∷ items) = node_item test items
+node_item test (Of_node n ∷ items) = here (test n) refl (node_item test items) where
+  here : (t : Bool) → test n ≡ t → find (node_that test) items ≡ option_map Of_node (find test (nodes items))
+      → find (node_that test) (Of_node n ∷ items) ≡ option_map Of_node (find test (nodes (Of_node n ∷ items)))
   here true e rest = rw e refl
   here false e rest = rw e rest
-
--- without the lock the nodes are the same
-pub nodes_unlocked : (request : RequestNo) (file : FileId) (session : ℕ) (items : List Item)
-    → nodes (without_first (is_lock_item request file session) items) ≡ nodes items
-nodes_unlocked request file session [] = refl
-nodes_unlocked request file session (Of_node n ∷ items) = ap (λ ns. n ∷ ns) (nodes_unlocked request file session items)
-nodes_unlocked request file session (Of_version v ∷ items) = nodes_unlocked request file session items
-nodes_unlocked request file session (Of_lock l ∷ items) =
-    here (is_lock_by request file session l) refl (nodes_unlocked request file session items) where
-      here : (t : Bool) → is_lock_by request file session l ≡ t → nodes (without_first (is_lock_item request file session) items) ≡ nodes items
-          → nodes (without_first (is_lock_item request file session) (Of_lock l ∷ items)) ≡ nodes (Of_lock l ∷ items)
-      here true e rest = rw e refl
-      here false e rest = rw e rest
 
 -- what the conditions of a commit come to
 abbrev came : List Item → Option Lock → Option Node → Tested
@@ -117,25 +105,21 @@ node_cond file base = conds.Take (node (number file.0) (Bind 0) (Bind 1) (number
 abbrev commit_conds : FileId → (agent incarnation session base : ℕ) → List Cond
 commit_conds file agent incarnation session base = conds.Take (plans.session_lock file agent incarnation session) ∷ node_cond file base
 
-node_tested : (items : List Item) (file : FileId) (base : ℕ) (l : Lock) → Each (IsFileAt file) (nodes items) → (o : Option Node)
-    → node_at (nodes items) file base ≡ o
-    → tested (node_cond file base) 1 (space_of items) [] 0 ≡ came (without_first (is_node_item file base) items) (Some l) o
-node_tested items file base l files o e =
-    let all = all_meet file base items (file_items file items files) in
-    let ws = node_wants file base in
-    let test = is_node_item file base in
-    let go = λ (m : Match). Passed m.bound 0 (matching.without_first ws (space_of items) []) in
-    ap (λ (m : Option Match). need m 1 go)
-    (first_met ws [] test binds_place items all ∙ ap (option_map (met binds_place)) (node_item file base items ∙ ap (option_map Of_node) e))
-    ∙ by o where
+node_tested : (items : List Item) (file : FileId) (base : ℕ) (l : Lock) → Each (IsFileAt file) (nodes items)
+    → tested (node_cond file base) 1 (space_of items) [] 0
+    ≡ came (without_first (node_that (is_node_at file base)) items) (Some l) (node_at (nodes items) file base)
+node_tested items file base l files =
+    let test = is_node_at file base in
+    take_met (node_wants file base) [] (node_that test) binds_place items (all_meet file base items (file_items file items files)) 1
+    (λ ts (m : Match). Passed m.bound 0 ts)
+    ∙ ap (λ x. need (option_map (met binds_place) x) 1 (λ (m : Match). Passed m.bound 0 (space_of (without_first (node_that test) items))))
+    (node_item test items) ∙ by (node_at (nodes items) file base) where
       by : (o : Option Node)
           → need (option_map (met binds_place) (option_map Of_node o)) 1
-          (λ (m : Match). Passed m.bound 0 (matching.without_first (node_wants file base) (space_of items) []))
-          ≡ came (without_first (is_node_item file base) items) (Some l) o
+          (λ (m : Match). Passed m.bound 0 (space_of (without_first (node_that (is_node_at file base)) items)))
+          ≡ came (without_first (node_that (is_node_at file base)) items) (Some l) o
       by None = refl
-      by (Some n) =
-          ap (λ ts. Passed (binds_place (Of_node n)) 0 ts)
-          (without_met (node_wants file base) [] (is_node_item file base) binds_place items (all_meet file base items (file_items file items files)))
+      by (Some n) = refl
 
 commit_tested : (items : List Item) (request : RequestNo) (file : FileId) (session base agent incarnation : ℕ) → agent ≡ request.agent
     → incarnation ≡ request.incarnation → (o : Option Lock) → session_lock (locks items) request file session ≡ o
@@ -144,26 +128,25 @@ commit_tested : (items : List Item) (request : RequestNo) (file : FileId) (sessi
     ≡ came (opened_up items request file session base) o (node_at (nodes items) file base)
 commit_tested items request file session base agent incarnation ea ei o e files =
     let ws = lock_wants file agent incarnation session in
-    let test = is_lock_item request file session in
-    let all = each_of (Meets ws [] test binds_none) (lock_meets request file session agent incarnation ea ei) items in
-    ap (λ (m : Option Match). need m 0 (λ (m : Match). tested (node_cond file base) 1 (matching.without_first ws (space_of items) []) m.bound 0))
-    (first_met ws [] test binds_none items all ∙ ap (option_map (met binds_none)) (lock_item request file session items ∙ ap (option_map Of_lock) e))
+    let test = is_lock_by request file session in
+    let rest = without_first (lock_that test) items in
+    let go = λ (ts : List Tuple) (m : Match). tested (node_cond file base) 1 ts m.bound 0 in
+    take_met ws [] (lock_that test) binds_none items
+    (each_of (Meets ws [] (lock_that test) binds_none) (lock_meets request file session agent incarnation ea ei) items) 0 go
+    ∙ ap (λ x. need (option_map (met binds_none) x) 0 (go (space_of rest))) (lock_item test items ∙ ap (option_map Of_lock) e)
     ∙ by o files where
       by : (o : Option Lock) → ((l : Lock) → o ≡ Some l → Each (IsFileAt file) (nodes items))
           → need (option_map (met binds_none) (option_map Of_lock o)) 0
-          (λ (m : Match). tested (node_cond file base) 1
-          (matching.without_first (lock_wants file agent incarnation session) (space_of items) []) m.bound 0)
+          (λ (m : Match). tested (node_cond file base) 1 (space_of (without_first (lock_that (is_lock_by request file session)) items)) m.bound 0)
           ≡ came (opened_up items request file session base) o (node_at (nodes items) file base)
       by None files = refl
       by (Some l) files =
-          let test = is_lock_item request file session in
-          let left = without_first test items in
-          let all = each_of (Meets (lock_wants file agent incarnation session) [] test binds_none)
-          (lock_meets request file session agent incarnation ea ei) items in
-          let same = nodes_unlocked request file session items in
-          ap (λ ts. tested (node_cond file base) 1 ts [] 0) (without_met (lock_wants file agent incarnation session) [] test binds_none items all)
-          ∙ node_tested left file base l (subst (Each (IsFileAt file)) (sym same) (files l refl)) (node_at (nodes items) file base)
-          (ap (λ (ns : List Node). node_at ns file base) same)
+          let rest = without_first (lock_that (is_lock_by request file session)) items in
+          subst (λ (ns : List Node). tested (node_cond file base) 1 (space_of rest) [] 0
+          ≡ came (opened_up items request file session base) (Some l) (node_at ns file base)) same
+          (node_tested rest file base l (subst (Each (IsFileAt file)) (sym same) (files l refl))) where
+            same : nodes (without_first (lock_that (is_lock_by request file session)) items) ≡ nodes items
+            same = ap (λ (t : Tree Row). t.nodes) (without_lock (is_lock_by request file session) items)
 
 -- a node of this file
 abbrev pub AtFile : FileId → Option Node → Type 0
@@ -171,24 +154,21 @@ AtFile file None = Unit {0}
 AtFile file (Some n) = (n.id.0 ≡ file.0) × (n.kind ≡ File)
 
 pub found_at : (file : FileId) (base : ℕ) (ns : List Node) → Each (IsFileAt file) ns → AtFile file (node_at ns file base)
-found_at file base [] h = tt
-found_at file base (n ∷ ns) h = here (eqb n.id.0 file.0) (eqb n.newest base) refl refl (found_at file base ns h.1) where
-  here : (t u : Bool) → eqb n.id.0 file.0 ≡ t → eqb n.newest base ≡ u → AtFile file (node_at ns file base) → AtFile file (node_at (n ∷ ns) file base)
-  here false u e f rest = rw e rest
-  here true false e f rest = rw (e, f) rest
-  here true true e f rest = rw (e, f) (number_eq n.id.0 file.0 e, h.0 (number_eq n.id.0 file.0 e))
+found_at file base ns h = by (node_at ns file base) refl where
+  by : (o : Option Node) → node_at ns file base ≡ o → AtFile file o
+  by None e = tt
+  by (Some n) e =
+      let same = eqb-true n.id.0 file.0 (both_true (eqb n.id.0 file.0) _ (found_passes (is_node_at file base) ns n e)).0 in
+      (same, each_found (IsFileAt file) (is_node_at file base) ns h n e same)
 
 -- a file that the session has the lock of is one
 pub held_files : (request : RequestNo) (file : FileId) (session : ℕ) (ns : List Node) (ls : List Lock) → LockFiles ns ls → (l : Lock)
     → session_lock ls request file session ≡ Some l → Each (IsFileAt file) ns
-held_files request file session ns [] h l e = absurd cc
-held_files request file session ns (x ∷ ls) h l e =
-    here (λ rest. held_files request file session ns ls h.1 l rest) (eqb x.file.0 file.0) (is_lock_by request file session x) refl refl where
-      here : (session_lock ls request file session ≡ Some l → Each (IsFileAt file) ns) → (t u : Bool) → eqb x.file.0 file.0 ≡ t
-          → is_lock_by request file session x ≡ u → Each (IsFileAt file) ns
-      here later t false f g = later (rw g at e)
-      here later true true f g = subst (λ (i : ℕ). Each (λ (n : Node). n.id.0 ≡ i → n.kind ≡ File) ns) (number_eq x.file.0 file.0 f) h.0
-      here later false true f g = absurd (let clash : false ≡ true = rw f at g in cc)
+held_files request file session ns ls h l e =
+    let own = is_lock_by request file session in
+    let same = ap (λ (x : Lock). x.file.0) (own_lock request file session l.until l (found_passes own ls l e)) in
+    subst (λ (i : ℕ). Each (λ (n : Node). n.id.0 ≡ i → n.kind ≡ File) ns) same
+    (each_found (λ (l : Lock). Each (λ (n : Node). n.id.0 ≡ l.file.0 → n.kind ≡ File) ns) own ls h l e)
 
 -- the version that a close completes
 abbrev pub completed : (now : ℕ) → Row → Row

@@ -1,29 +1,26 @@
-use Rattle.std.proofs.Common.{◌≡◌, ◌≢◌, ℕ, ◌<◌, ◌≤◌, ◌^◌, List, [], ◌∷◌, length, map, eqb, Bool, true, false, Option, Some, None, Ok, Err, refl, ap, ◌∙◌, sym, subst, arith}
-use Rattle.std.specs.Prelude.{filter}
-use Rattle.std.specs.List.{list_any}
+use Rattle.std.proofs.Common.{◌≢◌, ℕ, ◌<◌, ◌^◌, List, [], ◌∷◌, length, Option, Some, None, Ok, Err, refl, sym, subst, arith}
 use Rattle.std.specs.Option.{option_map}
 use Rattle.scfs_base.specs.declared.naming.FileId.{FileId}
 use Rattle.scfs_base.specs.declared.naming.RequestNo.{RequestNo}
 use Rattle.scfs_schedule.specs.declared.types.Kind.{Kind}
 use Rattle.scfs_schedule.specs.declared.types.Kind.TheVariants as kinds
 use Rattle.scfs_schedule.specs.declared.types.Refusal.TheVariants as refusals
-use Rattle.scfs_model.specs.Tree.{Node, Lock, node_in, is_lock_by}
+use Rattle.scfs_model.specs.Tree.{Node, Lock, node_in, session_lock}
 use Rattle.scfs_model.specs.Walks.{OrRefusal}
 use Rattle.scfs_model.specs.NameSteps.{Make, Look, made, new_file, name_outcome}
-use Rattle.scfs_model.specs.LockSteps.{Lock_step, Unlock, lock_outcome}
+use Rattle.scfs_model.specs.LockSteps.{Lock_step, Unlock, Unlock_all, Renew, frees, renewed, lock_outcome}
 use Rattle.scfs_anchor.specs.Shapes.{root}
 use Rattle.scfs_anchor.specs.Tree as anchor
-use Rattle.scfs_anchor.specs.Tree.{Entry, Each, IsEntry, IsTree, Apart}
-use Rattle.scfs_anchor.specs.Items.{Item, node_said, lock_said, entries_of, nodes, locks, live}
+use Rattle.scfs_anchor.specs.Tree.{Entry, Each, IsEntry, IsTree}
+use Rattle.scfs_anchor.specs.Items.{Item, node_said, entries_of, nodes}
 use Rattle.scfs_anchor.specs.StepPlans.{last_name}
 use Rattle.scfs_anchor.specs.StepReplies.{FitsNames, FitsLocks}
-use Rattle.scfs_anchor.proofs.OpenLemmas.{NodeFits, node_fits, live_again}
-use Rattle.scfs_anchor.proofs.SightLemmas.{number_eq}
-use Rattle.scfs_anchor.proofs.ItemLemmas.{flipped, node_found, live_said, locks_said}
+use Rattle.scfs_anchor.proofs.OpenLemmas.{NodeFits, node_fits}
+use Rattle.scfs_anchor.proofs.ItemLemmas.{node_found}
 use Rattle.scfs_anchor.proofs.ItemWalks.{on_from, directory_at}
 use Rattle.scfs_anchor.proofs.MakeLemmas.{made_in, make_walks}
 use Rattle.scfs_anchor.proofs.LookLemmas.{shown, shown_in, look_walks}
-use Rattle.scfs_anchor.proofs.ListLemmas.{head_false, tail_false}
+use Rattle.scfs_anchor.proofs.ListLemmas.{short_filter}
 
 -- The numbers of what steps on names and on locks come to fit.
 
@@ -88,38 +85,12 @@ look_fits now items (name ∷ names) is =
     subst (FitsNames (Look (name ∷ names))) (sym (look_walks items name names))
     (look_comes now items name names is (directory_at (anchor.nodes_of (entries_of items)) root (name ∷ names)))
 
--- no other lock is on the file of this one
-none_by : (request : RequestNo) (file : FileId) (session : ℕ) (ls : List Lock)
-    → list_any (λ (l : anchor.Lock). eqb file.0 l.file.0) (map lock_said ls) ≡ false → length (filter (is_lock_by request file session) ls) ≡ 0
-none_by request file session [] h = refl
-none_by request file session (l ∷ ls) h =
-    let other : eqb l.file.0 file.0 ≡ false = flipped file.0 l.file.0 false (head_false (eqb file.0 l.file.0) _ h) in
-    rw other (none_by request file session ls (tail_false (eqb file.0 l.file.0) _ h))
-
-one_by : (request : RequestNo) (file : FileId) (session : ℕ) (ls : List Lock) → Apart (λ a b. anchor.same_file a.file b.file) (map lock_said ls)
-    → length (filter (is_lock_by request file session) ls) ≤ 1
-one_by request file session [] h = omega arith
-one_by request file session (l ∷ ls) h =
-    here (eqb l.file.0 file.0) (is_lock_by request file session l) refl refl (one_by request file session ls h.1) where
-      here : (t u : Bool) → eqb l.file.0 file.0 ≡ t → is_lock_by request file session l ≡ u
-          → length (filter (is_lock_by request file session) ls) ≤ 1 → length (filter (is_lock_by request file session) (l ∷ ls)) ≤ 1
-      here t false e f rest = rw f rest
-      here false true e f rest = absurd (let clash : false ≡ true = rw e at f in cc)
-      here true true e f rest =
-          let none = none_by request file session ls
-          (subst (λ (i : ℕ). list_any (λ (x : anchor.Lock). eqb i x.file.0) (map lock_said ls) ≡ false) (number_eq l.file.0 file.0 e) h.0) in
-          rw f (omega arith)
-
--- the locks of items without ended locks are of different files
-pub locks_apart : (now : ℕ) (items : List Item) → IsTree now (entries_of (live now items))
-    → Apart (λ a b. anchor.same_file a.file b.file) (map lock_said (locks (live now items)))
-locks_apart now items is =
-    let again : anchor.live_entries now (entries_of (live now items)) ≡ entries_of (live now items) = ap (anchor.live_entries now)
-    (sym (live_said now items)) ∙ live_again now (entries_of items) ∙ live_said now items in
-    subst (Apart (λ a b. anchor.same_file a.file b.file)) (ap anchor.locks_of again ∙ locks_said (live now items)) is.locks
-
-pub locks_fit : (now : ℕ) (items : List Item) (request : RequestNo) (x : Lock_step) → IsTree now (entries_of (live now items))
-    → FitsLocks (lock_outcome (locks (live now items)) request x)
-locks_fit now items request (Unlock file session) is =
-    let few = one_by request file session (locks (live now items)) (locks_apart now items is) in
-    omega arith
+-- the numbers of what a step on locks comes to fit
+pub locks_fit : (ls : List Lock) (until : ℕ) (request : RequestNo) (x : Lock_step) → length ls < 2 ^ 64 → until < 2 ^ 64
+    → FitsLocks x (lock_outcome ls until request x)
+locks_fit ls until request (Unlock file session) few small = let short = short_filter (frees request (Unlock file session)) ls in omega arith
+locks_fit ls until request Unlock_all few small = let short = short_filter (frees request Unlock_all) ls in omega arith
+locks_fit ls until request (Renew file session) few small = by (session_lock ls request file session) where
+  by : (o : Option Lock) → FitsLocks (Renew file session) (renewed until o)
+  by None = tt
+  by (Some l) = small

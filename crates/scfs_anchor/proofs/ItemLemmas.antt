@@ -13,8 +13,9 @@ use Rattle.scfs_model.specs.Names.{same_file}
 use Rattle.scfs_model.specs.Tree.{Node, Lock, Tree, node_in, version_at, lock_on}
 use Rattle.scfs_model.specs.Tree as machine
 use Rattle.scfs_anchor.specs.Tree as anchor
-use Rattle.scfs_anchor.specs.Items.{Item, Of_node, Of_version, Of_lock, row_said, node_said, lock_said, entry_of, entries_of, space_of, nodes, versions, locks, tree_of, live}
+use Rattle.scfs_anchor.specs.Items.{Item, Of_node, Of_version, Of_lock, row_said, node_said, lock_said, entry_of, entries_of, space_of, nodes, versions, locks, tree_of, is_live, live}
 use Rattle.scfs_anchor.specs.declared.seen.VersionRow.{VersionRow}
+use Rattle.scfs_anchor.proofs.KeptLemmas.{keep_locks}
 
 -- What the entries of items say is what their tree says.
 
@@ -97,46 +98,12 @@ live_space now (Of_lock l ∷ items) = here (nat_lt now l.until) refl (live_spac
   here true e rest = rw e (ap (λ ts. anchor.tuple_of (entry_of (Of_lock l)) ∷ ts) rest)
   here false e rest = rw e rest
 
--- neither nodes nor versions end
-pub nodes_live : (now : ℕ) (items : List Item) → nodes (live now items) ≡ nodes items
-nodes_live now [] = refl
-nodes_live now (Of_node n ∷ items) = ap (λ ns. n ∷ ns) (nodes_live now items)
-nodes_live now (Of_version v ∷ items) = nodes_live now items
-nodes_live now (Of_lock l ∷ items) = here (nat_lt now l.until) refl (nodes_live now items) where
-  here : (t : Bool) → nat_lt now l.until ≡ t → nodes (live now items) ≡ nodes items → nodes (live now (Of_lock l ∷ items)) ≡ nodes (Of_lock l ∷ items)
-  here true e rest = rw e rest
-  here false e rest = rw e rest
-
-pub versions_live : (now : ℕ) (items : List Item) → versions (live now items) ≡ versions items
-versions_live now [] = refl
-versions_live now (Of_node n ∷ items) = versions_live now items
-versions_live now (Of_version v ∷ items) = ap (λ vs. v ∷ vs) (versions_live now items)
-versions_live now (Of_lock l ∷ items) = here (nat_lt now l.until) refl (versions_live now items) where
-  here : (t : Bool) → nat_lt now l.until ≡ t → versions (live now items) ≡ versions items
-      → versions (live now (Of_lock l ∷ items)) ≡ versions (Of_lock l ∷ items)
-  here true e rest = rw e rest
-  here false e rest = rw e rest
-
-pub locks_live : (now : ℕ) (items : List Item) → locks (live now items) ≡ filter (λ (l : Lock). nat_lt now l.until) (locks items)
-locks_live now [] = refl
-locks_live now (Of_node n ∷ items) = locks_live now items
-locks_live now (Of_version v ∷ items) = locks_live now items
-locks_live now (Of_lock l ∷ items) = here (nat_lt now l.until) refl (locks_live now items) where
-  here : (t : Bool) → nat_lt now l.until ≡ t → locks (live now items) ≡ filter (λ (l : Lock). nat_lt now l.until) (locks items)
-      → locks (live now (Of_lock l ∷ items)) ≡ filter (λ (l : Lock). nat_lt now l.until) (locks (Of_lock l ∷ items))
-  here true e rest = rw e (ap (λ ls. l ∷ ls) rest)
-  here false e rest = rw e rest
-
-abbrev pub tree_with : List Node → List Lock → List Row → Tree Row
-tree_with ns ls vs = record { nodes = ns; locks = ls; versions = vs }
-
--- trees of the same nodes, locks and versions
-pub same_tree : (a b : List Node) (c d : List Lock) (e f : List Row) → a ≡ b → c ≡ d → e ≡ f → tree_with a c e ≡ tree_with b d f
-same_tree a b c d e f p q r = λ i. tree_with (p i) (q i) (r i)
-
 -- the tree of what lives
 pub tree_live : (now : ℕ) (items : List Item) → tree_of (live now items) ≡ machine.live now (tree_of items)
-tree_live now items = same_tree _ _ _ _ _ _ (nodes_live now items) (locks_live now items) (versions_live now items)
+tree_live now items = keep_locks (is_live now) (λ (l : Lock). nat_lt now l.until) (λ n. refl) (λ v. refl) (λ l. refl) items
+
+pub locks_live : (now : ℕ) (items : List Item) → locks (live now items) ≡ filter (λ (l : Lock). nat_lt now l.until) (locks items)
+locks_live now items = ap (λ (t : Tree Row). t.locks) (tree_live now items)
 
 -- the tuples of two parts, one after the other
 pub space_append : (a b : List Item) → space_of (a ++ b) ≡ space_of a ++ space_of b

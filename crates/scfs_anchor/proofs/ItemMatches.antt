@@ -1,7 +1,8 @@
-use Rattle.std.proofs.Common.{◌≡◌, List, [], ◌∷◌, length, cond, Bool, true, false, Some, None, refl, ap, suc}
+use Rattle.std.proofs.Common.{◌≡◌, ℕ, ◌∙◌, List, [], ◌∷◌, length, cond, Bool, true, false, Some, None, refl, ap, suc}
 use Rattle.std.specs.Prelude.{filter, not}
 use Rattle.std.specs.List.{find}
 use Rattle.std.specs.Option.{option_map}
+use Rattle.scfs_tuples.specs.After.{Tested, need}
 use Rattle.scfs_tuples.specs.Matching.{Match, first_match, fits, matches, without_matches}
 use Rattle.scfs_tuples.specs.Matching as matching
 use Rattle.scfs_tuples.specs.declared.types.Field.{Field}
@@ -42,6 +43,15 @@ without_met ws bound test binds (x ∷ items) h = here (test x) refl (without_me
       → matching.without_first ws (space_of (x ∷ items)) bound ≡ space_of (without_first test (x ∷ items))
   here true e rest = rw (h.0, e) refl
   here false e rest = rw (h.0, e) (ap (λ ts. said x ∷ ts) rest)
+
+-- a condition takes the first item that passes, and on with what is left
+pub take_met : (ws : List Want) (bound : List Field) (test : Item → Bool) (binds : Item → List Field) (items : List Item)
+    → Each (Meets ws bound test binds) items → (at : ℕ) (go : List Tuple → Match → Tested)
+    → need (first_match ws (space_of items) bound) at (go (matching.without_first ws (space_of items) bound))
+    ≡ need (option_map (met binds) (find test items)) at (go (space_of (without_first test items)))
+take_met ws bound test binds items h at go =
+    ap (λ m. need m at (go (matching.without_first ws (space_of items) bound))) (first_met ws bound test binds items h)
+    ∙ ap (λ ts. need (option_map (met binds) (find test items)) at (go ts)) (without_met ws bound test binds items h)
 
 -- as many match as pass
 pub count_met : (ws : List Want) (bound : List Field) (test : Item → Bool) (binds : Item → List Field) (items : List Item)

@@ -7,9 +7,9 @@ pub mod ItemLemmas
 pub mod ItemMatches
 pub mod ItemWalks
 pub mod KeptLemmas
-pub mod LawLemmas
 pub mod ListLemmas
 pub mod LockLemmas
+pub mod LockStepLemmas
 pub mod LookLemmas
 pub mod MakeLemmas
 pub mod MovedLemmas
@@ -24,6 +24,5 @@ pub mod SightLemmas
 pub mod StayLemmas
 pub mod StepLemmas
 pub mod StepRules
-pub mod UnlockLemmas
 pub mod WalkLemmas
 pub mod WholeLemmas

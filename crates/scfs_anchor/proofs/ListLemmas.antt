@@ -1,6 +1,7 @@
-use Rattle.std.proofs.Common.{◌≡◌, List, [], ◌∷◌, ◌++◌, map, Bool, true, false, ◌||◌, Some, None, refl, ap, ◌∙◌, sym, subst}
-use Rattle.std.specs.Prelude.{filter}
+use Rattle.std.proofs.Common.{◌≡◌, ◌≤◌, List, [], ◌∷◌, ◌++◌, length, map, Bool, true, false, ◌||◌, ◌&&◌, arith, Some, None, refl, ap, ◌∙◌, sym, subst}
+use Rattle.std.specs.Prelude.{filter, not}
 use Rattle.std.specs.List.{find, list_any}
+use Rattle.std.proofs.lemmas.List.Filters.{length-filter_both}
 use Rattle.scfs_anchor.specs.Tree.{Each, Apart}
 use Rattle.scfs_model.specs.Lists.{without_first}
 
@@ -13,6 +14,21 @@ head_false false u h = refl
 pub tail_false : (t u : Bool) → t || u ≡ false → u ≡ false
 tail_false true u h = cc
 tail_false false u h = h
+
+pub both_true : (t u : Bool) → t && u ≡ true → (t ≡ true) × (u ≡ true)
+both_true true u h = (refl, h)
+both_true false u h = cc
+
+-- a filter is no longer, nor is what is left without the first that passes
+pub short_filter : {X : Type 0} (p : X → Bool) (xs : List X) → length (filter p xs) ≤ length xs
+short_filter p xs = let both = length-filter_both p (λ x. not (p x)) (λ x. refl) xs in omega arith
+
+pub short_without : {X : Type 0} (p : X → Bool) (xs : List X) → length (without_first p xs) ≤ length xs
+short_without p [] = omega arith
+short_without p (x ∷ xs) = here (p x) refl (short_without p xs) where
+  here : (t : Bool) → p x ≡ t → length (without_first p xs) ≤ length xs → length (without_first p (x ∷ xs)) ≤ length (x ∷ xs)
+  here true e rest = rw e (omega arith)
+  here false e rest = rw e (omega arith)
 
 pub each_map : {X Y : Type 0} (f : X → Y) (P : Y → Type 0) (xs : List X) → Each (λ x. P (f x)) xs → Each P (map f xs)
 each_map f P [] h = tt

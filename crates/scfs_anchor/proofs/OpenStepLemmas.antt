@@ -1,10 +1,9 @@
-use Rattle.std.proofs.Common.{◌≡◌, ◌≢◌, ℕ, ◌+◌, List, [], ◌∷◌, eqb, Bool, true, false, ◌&&◌, Option, Some, None, Ok, Err, refl, ap, ◌∙◌, sym, subst}
+use Rattle.std.proofs.Common.{◌≡◌, ◌≢◌, ℕ, ◌+◌, ◌<◌, ◌^◌, List, [], ◌∷◌, eqb, Bool, true, false, ◌&&◌, Option, Some, None, Ok, Err, refl, ap, ◌∙◌, sym, subst}
 use Rattle.std.specs.Option.{option_map}
 use Rattle.std.proofs.lemmas.List.{map-append}
 use Rattle.scfs_base.specs.declared.naming.FileId.{FileId}
 use Rattle.scfs_base.specs.declared.naming.RequestNo.{RequestNo}
-use Rattle.scfs_tuples.specs.After.{reply_of, left_after, reply_among, left_among}
-use Rattle.scfs_tuples.specs.declared.types.Tuple.{Tuple}
+use Rattle.scfs_tuples.specs.After.{reply_among, left_among}
 use Rattle.scfs_model.specs.Layers.{Row, rows}
 use Rattle.scfs_model.specs.Names.{same_file, root_id}
 use Rattle.scfs_model.specs.Tree.{Node, Lock, version_at, lock_on}
@@ -14,19 +13,18 @@ use Rattle.scfs_model.specs.SessionSteps as machine
 use Rattle.scfs_anchor.specs.Shapes.{root}
 use Rattle.scfs_anchor.specs.Plans.{step_of, open_read}
 use Rattle.scfs_anchor.specs.Tree as anchor
-use Rattle.scfs_anchor.specs.Tree.{Entry, Each, IsEntry, IsTree, tuples_of}
-use Rattle.scfs_anchor.specs.Laws.{AnswersSight}
+use Rattle.scfs_anchor.specs.Tree.{Each, Apart, IsEntry, IsTree, tuples_of}
 use Rattle.scfs_anchor.specs.Replies.{ShowsSight}
-use Rattle.scfs_anchor.specs.Items.{Item, Of_node, Of_version, Of_lock, row_said, lock_said, entry_of, entries_of, space_of, versions, locks, tree_of, live}
+use Rattle.scfs_anchor.specs.Items.{Item, Of_node, Of_version, Of_lock, lock_said, entry_of, entries_of, space_of, versions, locks, tree_of}
 use Rattle.scfs_anchor.specs.StepPlans.{session_plan}
 use Rattle.scfs_anchor.specs.StepReplies.{sight_said, FitsVersion, FitsSight, FitsSessions}
-use Rattle.scfs_anchor.specs.declared.seen.Sight.{Sight}
-use Rattle.scfs_anchor.specs.declared.seen.VersionRow.{VersionRow}
-use Rattle.scfs_anchor.proofs.OpenLemmas.{opens_at_tree, file_fits, FileFits}
-use Rattle.scfs_anchor.proofs.LockLemmas.{locks_at_tree}
+use Rattle.scfs_anchor.proofs.OpenLemmas.{AnswersSight, LocksApart, opens_at_tree, file_fits, FileFits}
+use Rattle.scfs_anchor.proofs.LockLemmas.{taken, unless_locked, with_lock, LocksAt, locks_at_tree}
 use Rattle.scfs_anchor.proofs.Alike.{SessionsAlike}
-use Rattle.scfs_anchor.proofs.ItemLemmas.{node_meant, live_said, live_space, version_found, lock_found}
+use Rattle.scfs_anchor.proofs.ItemLemmas.{node_meant, locks_said, version_found, lock_found}
 use Rattle.scfs_anchor.proofs.ItemWalks.{on_from, walk_to_file}
+use Rattle.scfs_anchor.proofs.ListLemmas.{apart_map}
+use Rattle.scfs_anchor.proofs.WholeLemmas.{same_lock}
 
 -- Opens, over the items that live.
 
@@ -38,21 +36,22 @@ held_said : (o : Option Lock) → option_map anchor.held (option_map lock_said o
 held_said None = refl
 held_said (Some l) = refl
 
-abbrev a_sight : anchor.Node → Option VersionRow → Option (ℕ × ℕ × ℕ) → Sight
-a_sight n row lock = record { id = n.id; newest = n.newest; row = row; lock = lock }
-
 -- the sight of a file in the tree
 abbrev pub sight_in : List Item → anchor.Node → machine.Sight Row
 sight_in items n = sight_of rows (tree_of items) (node_meant n)
 
 -- the sight of a file in the entries is that in the tree
-seen_said : (items : List Item) (n : anchor.Node)
-    → anchor.sight_with (entries_of items) n (anchor.version_of (anchor.versions_of (entries_of items)) n.id n.newest) ≡ sight_said (sight_in items n)
+seen_said : (items : List Item) (n : anchor.Node) → anchor.sight_of (entries_of items) n ≡ sight_said (sight_in items n)
 seen_said items n =
-    ap (λ row. anchor.sight_with (entries_of items) n row) (version_found items n.id n.newest)
-    ∙ ap (λ lock. a_sight n (option_map row_said (version_at rows (versions items) n.id n.newest)) (option_map anchor.held lock))
-    (lock_found items n.id)
-    ∙ ap (λ held. a_sight n (option_map row_said (version_at rows (versions items) n.id n.newest)) held) (held_said (lock_on (locks items) n.id))
+    let row = version_found items n.id n.newest in
+    let held = ap (option_map anchor.held) (lock_found items n.id) ∙ held_said (lock_on (locks items) n.id) in
+    λ i. record { id = n.id; newest = n.newest; row = row i; lock = held i }
+
+-- no two locks of the entries are on one file
+entries_apart : (items : List Item) → Apart same_lock (locks items) → LocksApart (entries_of items)
+entries_apart items h =
+    subst (Apart (λ (a b : anchor.Lock). anchor.same_file a.file b.file)) (sym (locks_said items))
+    (apart_map lock_said (λ a b. anchor.same_file a.file b.file) (locks items) h)
 
 -- the outcome of an open for reading, by the way through the entries
 abbrev pub read_from : List Item → OrRefusal anchor.Node → OrRefusal (Session_outcome Row)
@@ -68,31 +67,22 @@ read_walks now until items request names session some =
 
 read_answered : (now lease : ℕ) (items : List Item) (request : RequestNo) (names : List (List ℕ)) (session : ℕ) (r : OrRefusal anchor.Node)
     → (let step = step_of (open_read names None) in
-    AnswersSight step (reply_among (space_of items) now step) (anchor.seen_at (anchor.seen_of (entries_of items) None) r)
+    AnswersSight step (reply_among (space_of items) now step) (on_ok (anchor.sight_of (entries_of items)) r)
     × (left_among (space_of items) now step ≡ space_of items))
     → SessionsAlike now lease items request (Open_read names session) (read_from items r)
 read_answered now lease items request names session (Ok n) h =
-    let step = step_of (open_read names None) in
-    (subst (ShowsSight (reply_among (space_of items) now step)) (seen_said items n) h.0, h.1)
+    (subst (ShowsSight (reply_among (space_of items) now (step_of (open_read names None)))) (seen_said items n) h.0, h.1)
 read_answered now lease items request names session (Err why) h = h
 
 pub read_alike : (now lease : ℕ) (items : List Item) (request : RequestNo) (names : List (List ℕ)) (session : ℕ)
-    → IsTree now (entries_of (live now items)) → names ≢ []
-    → SessionsAlike now lease (live now items) request (Open_read names session)
-    (session_outcome rows (tree_of (live now items)) now (now + lease) request (Open_read names session))
-read_alike now lease items request names session is some =
-    let T = live now items in
-    let step = step_of (open_read names None) in
-    let law = opens_at_tree now (entries_of items) names None (subst (IsTree now) (sym (live_said now items)) is) some in
-    let here = subst (λ (es : List Entry). AnswersSight step (reply_of (space_of items) now step)
-    (anchor.seen_at (anchor.seen_of es None) (anchor.file_at (anchor.nodes_of es) root names)) ×
-    (left_after (space_of items) now step ≡ tuples_of es)) (live_said now items) law in
-    let among = subst (λ (ts : List Tuple). AnswersSight step (reply_among ts now step)
-    (anchor.seen_at (anchor.seen_of (entries_of T) None) (anchor.file_at (anchor.nodes_of (entries_of T)) root names)) ×
-    (left_among ts now step ≡ space_of T)) (live_space now items) here in
-    subst (λ (r : OrRefusal (Session_outcome Row)). SessionsAlike now lease T request (Open_read names session) r)
-    (sym (read_walks now (now + lease) T request names session some))
-    (read_answered now lease T request names session (anchor.file_at (anchor.nodes_of (entries_of T)) root names) among)
+    → IsTree now (entries_of items) → Apart same_lock (locks items) → names ≢ []
+    → SessionsAlike now lease items request (Open_read names session)
+    (session_outcome rows (tree_of items) now (now + lease) request (Open_read names session))
+read_alike now lease items request names session is apart some =
+    subst (λ (r : OrRefusal (Session_outcome Row)). SessionsAlike now lease items request (Open_read names session) r)
+    (sym (read_walks now (now + lease) items request names session some))
+    (read_answered now lease items request names session (anchor.file_at (anchor.nodes_of (entries_of items)) root names)
+    (opens_at_tree now (entries_of items) names is (entries_apart items apart) some))
 
 -- the outcome of an open for writing, by the way through the entries
 abbrev pub write_from : List Item → (until : ℕ) → RequestNo → (session : ℕ) → OrRefusal anchor.Node → OrRefusal (Session_outcome Row)
@@ -111,60 +101,40 @@ write_walks now until items request names session some =
 -- an open of the file n, by the lock on it
 lock_answered : (now lease : ℕ) (items : List Item) (request : RequestNo) (names : List (List ℕ)) (session : ℕ) (n : anchor.Node) (o : Option Lock)
     → (let step = step_of (session_plan lease request (Open_write names session)) in
-    AnswersSight step (reply_among (space_of items) now step)
-    (anchor.unless_locked (option_map lock_said o)
-    (anchor.sight_with (entries_of items) n (anchor.version_of (anchor.versions_of (entries_of items)) n.id n.newest)))
+    AnswersSight step (reply_among (space_of items) now step) (unless_locked (entries_of items) n (option_map lock_said o))
     × (left_among (space_of items) now step
-    ≡ tuples_of (anchor.with_lock (entries_of items) (option_map lock_said o)
-    (anchor.new_lock_of now request.agent request.incarnation session lease n))))
+    ≡ tuples_of (with_lock (entries_of items) (taken now request.agent request.incarnation session lease n) (option_map lock_said o))))
     → SessionsAlike now lease items request (Open_write names session)
     (on_ok (λ (n : Node). Locks (sight_of rows (tree_of items) n) (new_lock request session (now + lease) n.id)) (unlocked o (node_meant n)))
 lock_answered now lease items request names session n None h =
-    let step = step_of (session_plan lease request (Open_write names session)) in
-    let l = new_lock request session (now + lease) n.id in (
-      subst (ShowsSight (reply_among (space_of items) now step)) (seen_said items n) h.0,
-      h.1 ∙ ap tuples_of
-          (sym (map-append entry_of items (Of_lock l ∷ []))),
+    let step = step_of (session_plan lease request (Open_write names session)) in (
+      (subst (ShowsSight (reply_among (space_of items) now step)) (seen_said items n) h.0, refl),
+      h.1 ∙ ap tuples_of (sym (map-append entry_of items (Of_lock (new_lock request session (now + lease) n.id) ∷ []))),
     )
 lock_answered now lease items request names session n (Some there) h = h
 
 write_answered : (now lease : ℕ) (items : List Item) (request : RequestNo) (names : List (List ℕ)) (session : ℕ) (r : OrRefusal anchor.Node)
-    → (let step = step_of (session_plan lease request (Open_write names session)) in
-    AnswersSight step (reply_among (space_of items) now step) (anchor.seen_at (anchor.seen_locked (entries_of items)) r)
-    × (left_among (space_of items) now step
-    ≡ tuples_of (anchor.entries_locked (entries_of items) (anchor.new_lock_of now request.agent request.incarnation session lease) r)))
+    → LocksAt now (entries_of items) (step_of (session_plan lease request (Open_write names session)))
+    (taken now request.agent request.incarnation session lease) r
     → SessionsAlike now lease items request (Open_write names session) (write_from items (now + lease) request session r)
 write_answered now lease items request names session (Ok n) h =
     let step = step_of (session_plan lease request (Open_write names session)) in
     let es = entries_of items in
-    let seen = anchor.sight_with es n (anchor.version_of (anchor.versions_of es) n.id n.newest) in
-    let l = anchor.new_lock_of now request.agent request.incarnation session lease n in
     lock_answered now lease items request names session n (lock_on (locks items) n.id)
-    (subst (λ (o : Option anchor.Lock). AnswersSight step (reply_among (space_of items) now step) (anchor.unless_locked o seen) ×
-    (left_among (space_of items) now step ≡ tuples_of (anchor.with_lock es o l))) (lock_found items n.id) h)
+    (subst (λ (o : Option anchor.Lock). AnswersSight step (reply_among (space_of items) now step) (unless_locked es n o) ×
+    (left_among (space_of items) now step ≡ tuples_of (with_lock es (taken now request.agent request.incarnation session lease n) o)))
+    (lock_found items n.id) h)
 write_answered now lease items request names session (Err why) h = h
 
 pub write_alike : (now lease : ℕ) (items : List Item) (request : RequestNo) (names : List (List ℕ)) (session : ℕ)
-    → IsTree now (entries_of (live now items)) → names ≢ []
-    → SessionsAlike now lease (live now items) request (Open_write names session)
-    (session_outcome rows (tree_of (live now items)) now (now + lease) request (Open_write names session))
-write_alike now lease items request names session is some =
-    let T = live now items in
-    let step = step_of (session_plan lease request (Open_write names session)) in
-    let new = anchor.new_lock_of now request.agent request.incarnation session lease in
-    let law = locks_at_tree now (entries_of items) names request.agent request.incarnation session lease
-    (subst (IsTree now) (sym (live_said now items)) is) some in
-    let here = subst (λ (es : List Entry). AnswersSight step (reply_of (space_of items) now step)
-    (anchor.seen_at (anchor.seen_locked es) (anchor.file_at (anchor.nodes_of es) root names)) ×
-    (left_after (space_of items) now step ≡ tuples_of (anchor.entries_locked es new (anchor.file_at (anchor.nodes_of es) root names))))
-    (live_said now items) law in
-    let among = subst (λ (ts : List Tuple). AnswersSight step (reply_among ts now step)
-    (anchor.seen_at (anchor.seen_locked (entries_of T)) (anchor.file_at (anchor.nodes_of (entries_of T)) root names)) ×
-    (left_among ts now step ≡ tuples_of (anchor.entries_locked (entries_of T) new (anchor.file_at (anchor.nodes_of (entries_of T)) root names))))
-    (live_space now items) here in
-    subst (λ (r : OrRefusal (Session_outcome Row)). SessionsAlike now lease T request (Open_write names session) r)
-    (sym (write_walks now (now + lease) T request names session some))
-    (write_answered now lease T request names session (anchor.file_at (anchor.nodes_of (entries_of T)) root names) among)
+    → IsTree now (entries_of items) → Apart same_lock (locks items) → names ≢ []
+    → SessionsAlike now lease items request (Open_write names session)
+    (session_outcome rows (tree_of items) now (now + lease) request (Open_write names session))
+write_alike now lease items request names session is apart some =
+    subst (λ (r : OrRefusal (Session_outcome Row)). SessionsAlike now lease items request (Open_write names session) r)
+    (sym (write_walks now (now + lease) items request names session some))
+    (write_answered now lease items request names session (anchor.file_at (anchor.nodes_of (entries_of items)) root names)
+    (locks_at_tree now (entries_of items) names request.agent request.incarnation session lease is (entries_apart items apart) some))
 
 -- the numbers of a version that is there fit
 version_fits : (now : ℕ) (id : FileId) (v : ℕ) (items : List Item) → Each (IsEntry now) (entries_of items)
@@ -194,23 +164,23 @@ read_fits now until items request names session is some =
     (read_comes now items names session is (anchor.file_at (anchor.nodes_of (entries_of items)) root names)
     (file_fits now (entries_of items) is.ranges names root))
 
-locked_fits : (items : List Item) (until : ℕ) (request : RequestNo) (names : List (List ℕ)) (session : ℕ) (n : Node)
+locked_fits : (items : List Item) (until : ℕ) (request : RequestNo) (names : List (List ℕ)) (session : ℕ) (n : Node) → until < 2 ^ 64
     → FitsSight (sight_of rows (tree_of items) n) → (o : Option Lock)
     → FitsSessions (Open_write names session)
     (on_ok (λ (n : Node). Locks (sight_of rows (tree_of items) n) (new_lock request session until n.id)) (unlocked o n))
-locked_fits items until request names session n fit None = fit
-locked_fits items until request names session n fit (Some there) = tt
+locked_fits items until request names session n small fit None = (fit, small)
+locked_fits items until request names session n small fit (Some there) = tt
 
 write_comes : (now until : ℕ) (items : List Item) (request : RequestNo) (names : List (List ℕ)) (session : ℕ) → IsTree now (entries_of items)
-    → (r : OrRefusal anchor.Node) → FileFits r → FitsSessions (Open_write names session) (write_from items until request session r)
-write_comes now until items request names session is (Ok n) fit =
-    locked_fits items until request names session (node_meant n) (sight_fits now items n is fit) (lock_on (locks items) n.id)
-write_comes now until items request names session is (Err why) fit = tt
+    → until < 2 ^ 64 → (r : OrRefusal anchor.Node) → FileFits r → FitsSessions (Open_write names session) (write_from items until request session r)
+write_comes now until items request names session is small (Ok n) fit =
+    locked_fits items until request names session (node_meant n) small (sight_fits now items n is fit) (lock_on (locks items) n.id)
+write_comes now until items request names session is small (Err why) fit = tt
 
 pub write_fits : (now until : ℕ) (items : List Item) (request : RequestNo) (names : List (List ℕ)) (session : ℕ) → IsTree now (entries_of items)
-    → names ≢ []
+    → until < 2 ^ 64 → names ≢ []
     → FitsSessions (Open_write names session) (session_outcome rows (tree_of items) now until request (Open_write names session))
-write_fits now until items request names session is some =
+write_fits now until items request names session is small some =
     subst (FitsSessions (Open_write names session)) (sym (write_walks now until items request names session some))
-    (write_comes now until items request names session is (anchor.file_at (anchor.nodes_of (entries_of items)) root names)
+    (write_comes now until items request names session is small (anchor.file_at (anchor.nodes_of (entries_of items)) root names)
     (file_fits now (entries_of items) is.ranges names root))

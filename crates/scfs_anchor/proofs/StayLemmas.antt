@@ -1,86 +1,90 @@
-use Rattle.std.proofs.Common.{◌≡◌, ◌≢◌, ℕ, ◌+◌, ◌<◌, ◌≤◌, ◌^◌, List, [], ◌∷◌, ◌++◌, eqb, Bool, true, false, Option, Some, None, Ok, Err, refl, ◌∙◌, sym, subst, arith}
-use Rattle.std.specs.Prelude.{not, filter}
+use Rattle.std.proofs.Common.{◌≡◌, ◌≢◌, ℕ, ◌+◌, ◌<◌, ◌≤◌, ◌^◌, List, [], ◌∷◌, ◌++◌, length, eqb, Bool, true, false, Option, Some, None, Ok, Err, refl, ap, ◌∙◌, sym, subst, arith, length-append}
+use Rattle.std.specs.Prelude.{not}
 use Rattle.std.specs.List.{find}
 use Rattle.std.specs.Option.{option_map}
-use Rattle.std.proofs.lemmas.List.{append-nil}
-use Rattle.std.proofs.lemmas.List.Elements.{filter_map-append}
+use Rattle.std.proofs.lemmas.Bool.{eqb-true}
 use Rattle.scfs_base.specs.declared.naming.FileId.{FileId}
 use Rattle.scfs_base.specs.declared.naming.RequestNo.{RequestNo}
 use Rattle.scfs_schedule.specs.declared.types.Kind.{Kind}
 use Rattle.scfs_schedule.specs.declared.types.Kind.TheVariants as kinds
 use Rattle.scfs_schedule.specs.declared.types.Refusal.TheVariants as refusals
 use Rattle.scfs_model.specs.Layers.{Row, rows}
-use Rattle.scfs_model.specs.Tree.{Node, Lock, Tree, node_in, lock_on, is_lock_by}
+use Rattle.scfs_model.specs.Tree.{Node, Lock, Tree, node_in, lock_on, is_lock_by, session_lock}
 use Rattle.scfs_model.specs.Walks.{OrRefusal, on_ok, unlocked}
 use Rattle.scfs_model.specs.NameSteps.{Name_outcome, made, new_file, nodes_after}
-use Rattle.scfs_model.specs.LockSteps.{Lock_step, Unlock, locks_after}
+use Rattle.scfs_model.specs.Lists.{without_first}
+use Rattle.scfs_model.specs.LockSteps.{Lock_step, Unlock, Unlock_all, Renew, Lock_outcome, Frees, frees, freed, renewed, lock_outcome, locks_after}
 use Rattle.scfs_model.specs.SessionSteps.{Session_outcome, Locks, sight_of, new_lock, session_after}
 use Rattle.scfs_model.specs.Steps.{after_ok}
 use Rattle.scfs_anchor.specs.Tree as anchor
 use Rattle.scfs_anchor.specs.Tree.{Each, Apart, IsEntry, IsTree}
-use Rattle.scfs_anchor.specs.Items.{Item, Of_node, Of_lock, node_said, entry_of, entries_of, nodes, versions, locks, tree_of}
-use Rattle.scfs_anchor.specs.Items as item
+use Rattle.scfs_anchor.specs.Items.{Item, Of_node, Of_version, Of_lock, node_said, entry_of, entries_of, nodes, versions, locks, tree_of}
 use Rattle.scfs_anchor.specs.StepPlans.{last_name}
 use Rattle.scfs_anchor.specs.Holding.{LockFiles, HaveAtMost}
 use Rattle.scfs_anchor.proofs.OpenLemmas.{FileFits}
-use Rattle.scfs_anchor.proofs.SightLemmas.{number_eq}
-use Rattle.scfs_anchor.proofs.Alike.{is_lock_item, name_items, session_items}
-use Rattle.scfs_anchor.proofs.ItemLemmas.{node_meant, node_found, tree_with, same_tree}
+use Rattle.scfs_anchor.proofs.Alike.{lock_that, lock_items, name_items, session_items}
+use Rattle.scfs_anchor.proofs.ItemLemmas.{node_meant, node_found, eqb_sym}
 use Rattle.scfs_anchor.proofs.ItemWalks.{on_from}
 use Rattle.scfs_anchor.proofs.MakeLemmas.{made_in}
 use Rattle.scfs_anchor.proofs.LookLemmas.{shown, shown_in}
-use Rattle.scfs_anchor.proofs.UnlockLemmas.{lock_items}
 use Rattle.scfs_anchor.proofs.OpenStepLemmas.{read_from, write_from}
 use Rattle.scfs_anchor.proofs.FitLemmas.{DirFits}
-use Rattle.scfs_anchor.proofs.ListLemmas.{each_map, each_unmap, each_also, each_append, each_filter, none_found, apart_filter, apart_append}
-use Rattle.scfs_anchor.proofs.WholeLemmas.{same_id, same_place, same_lock, Whole, whole_of, stands}
+use Rattle.scfs_anchor.proofs.ListLemmas.{each_map, each_also, each_append, each_filter, each_without, each_found, none_found, apart_filter, apart_without, apart_append, each_apart, short_filter, short_without}
+use Rattle.scfs_anchor.proofs.WholeLemmas.{same_id, same_place, same_lock, Whole, stands}
 use Rattle.scfs_anchor.proofs.MovedLemmas.{with_node, alone}
-use Rattle.scfs_anchor.proofs.KeptLemmas.{nodes_freed, versions_freed, locks_freed}
+use Rattle.scfs_anchor.proofs.KeptLemmas.{tree_with, without_lock, keep_locks, lock_behind, node_behind}
 
 -- What each step leaves is a tree, and the machine's.
 
--- items without ended locks that stand for a tree, with so many versions of a file at most
+-- a tree of nodes, versions and locks that go together, with so many versions of a file, and locks, at most
+pub record Stand (most : ℕ) (t : Tree Row) : Type 0 where
+  pub whole : Whole t.nodes t.versions
+  pub apart : Apart same_lock t.locks
+  pub files : LockFiles t.nodes t.locks
+  pub few : HaveAtMost most t.nodes
+  pub held : length t.locks ≤ most
+
+-- the numbers of an item fit
+abbrev pub Fits : (now : ℕ) → Item → Type 0
+Fits now x = IsEntry now (entry_of x)
+
+-- items without ended locks that stand for a tree
 pub record Before (now most : ℕ) (items : List Item) : Type 0 where
-  pub valid : IsTree now (entries_of items)
-  pub apart : Apart same_lock (locks items)
-  pub files : LockFiles (nodes items) (locks items)
-  pub few : HaveAtMost most (nodes items)
+  pub fit : Each (Fits now) items
+  pub stand : Stand most (tree_of items)
 
 -- items stand for this tree
-abbrev pub Stays : (now most : ℕ) → List Item → Tree Row → Type 0
-Stays now most items tree =
-    IsTree now (entries_of items) × (tree_of items ≡ tree) × LockFiles tree.nodes tree.locks × HaveAtMost most tree.nodes
+pub record Stays (now most : ℕ) (items : List Item) (tree : Tree Row) : Type 0 where
+  pub fit : Each (Fits now) items
+  pub meant : tree_of items ≡ tree
+  pub stand : Stand most tree
+
+pub valid : (now most : ℕ) (items : List Item) → Before now most items → IsTree now (entries_of items)
+valid now most items is = stands now items (each_map entry_of (IsEntry now) items is.fit) is.stand.apart is.stand.whole
 
 -- no node has more versions than one more
 pub more : (most : ℕ) (ns : List Node) → HaveAtMost most ns → HaveAtMost (most + 1) ns
 more most ns h = each_also (λ (n : Node). n.newest ≤ most) (λ (n : Node). n.newest ≤ most + 1) (λ n k. omega arith) ns h
 
 pub stay : (now most : ℕ) (items : List Item) → Before now most items → Stays now (most + 1) items (tree_of items)
-stay now most items is = (is.valid, refl, is.files, more most (nodes items) is.few)
+stay now most items is =
+    let s = is.stand in
+    let held : length (locks items) ≤ most = s.held in
+    record {
+      fit = is.fit;
+      meant = refl;
+      stand = record { whole = s.whole; apart = s.apart; files = s.files; few = more most (nodes items) s.few; held = omega arith };
+    }
 
--- by their nodes, their locks and their versions
-pub finish : (now most : ℕ) (items : List Item) (ns : List Node) (ls : List Lock) (vs : List Row) → nodes items ≡ ns → locks items ≡ ls
-    → versions items ≡ vs → Each (IsEntry now) (entries_of items) → Whole ns vs → Apart same_lock ls → LockFiles ns ls → HaveAtMost most ns
-    → Stays now most items (tree_with ns ls vs)
-finish now most items ns ls vs en el ev ranges whole apart files few = (
-  stands now items ranges (subst (Apart same_lock) (sym el) apart)
-      (subst (λ (x : List Node). Whole x (versions items)) (sym en) (subst (λ (x : List Row). Whole ns x) (sym ev) whole)),
-  same_tree _ _ _ _ _ _ en el ev,
-  files,
-  few,
-)
-
-pub items_fit : (now : ℕ) (items : List Item) → Each (IsEntry now) (entries_of items) → Each (λ x. IsEntry now (entry_of x)) items
-items_fit now items h = each_unmap entry_of (IsEntry now) items h
-
-pub fit_items : (now : ℕ) (items : List Item) → Each (λ x. IsEntry now (entry_of x)) items → Each (IsEntry now) (entries_of items)
-fit_items now items h = each_map entry_of (IsEntry now) items h
+-- all nodes of this number are files
+abbrev pub FilesAt : List Node → (file : ℕ) → Type 0
+FilesAt ns file = Each (λ (n : Node). n.id.0 ≡ file → n.kind ≡ kinds.File) ns
 
 -- an id that is not one is another
 other_id : (a b : ℕ) → a ≢ b → eqb a b ≡ false
 other_id a b h = by (eqb a b) refl where
   by : (t : Bool) → eqb a b ≡ t → eqb a b ≡ false
-  by true e = absurd (h (number_eq a b e))
+  by true e = absurd (h (eqb-true a b e))
   by false e = e
 
 -- the tree after a step on names came to this
@@ -94,21 +98,26 @@ made_stays : (now most : ℕ) (items : List Item) (id : FileId) (d : ℕ) (last 
 made_stays now most items id d last is few small fresh (Some n) e = stay now most items is
 made_stays now most items id d last is few small fresh None e =
     let new = new_file id (record { 0 = d }) last in
+    let s = is.stand in
+    let held : length (locks items) ≤ most = s.held in
     let ids = each_also (λ (n : Node). n.id.0 ≢ id.0) (λ (n : Node). same_id n new ≡ false) (λ n h. other_id n.id.0 id.0 h) (nodes items) fresh in
     let places : Each (λ n. same_place n new ≡ false) (nodes items) = none_found (λ n. same_place n new) (nodes items) e in
-    finish now (most + 1) (items ++ Of_node new ∷ []) (nodes items ++ new ∷ []) (locks items) (versions items)
-    (filter_map-append item.node_of items (Of_node new ∷ []))
-    (filter_map-append item.lock_of items (Of_node new ∷ []) ∙ append-nil (locks items))
-    (filter_map-append item.version_of items (Of_node new ∷ []) ∙ append-nil (versions items))
-    (fit_items now (items ++ Of_node new ∷ [])
-    (each_append (λ x. IsEntry now (entry_of x)) items (Of_node new ∷ []) (items_fit now items is.valid.ranges)
-    (record { id = few; parent = small; newest = omega arith; size = omega arith }, tt)))
-    (with_node (nodes items) (versions items) new (whole_of now items is.valid) ids places refl refl)
-    is.apart
-    (each_also (λ (l : Lock). Each (λ (n : Node). n.id.0 ≡ l.file.0 → n.kind ≡ kinds.File) (nodes items))
-    (λ (l : Lock). Each (λ (n : Node). n.id.0 ≡ l.file.0 → n.kind ≡ kinds.File) (nodes items ++ new ∷ []))
-    (λ l h. each_append (λ (n : Node). n.id.0 ≡ l.file.0 → n.kind ≡ kinds.File) (nodes items) (new ∷ []) h ((λ i. refl), tt)) (locks items) is.files)
-    (each_append (λ (n : Node). n.newest ≤ most + 1) (nodes items) (new ∷ []) (more most (nodes items) is.few) (omega arith, tt))
+    record {
+      fit =
+          each_append (Fits now) items (Of_node new ∷ []) is.fit
+          (record { id = few; parent = small; newest = omega arith; size = omega arith }, tt);
+      meant = node_behind items new;
+      stand = record {
+        whole = with_node (nodes items) (versions items) new s.whole ids places refl refl;
+        apart = s.apart;
+        files =
+            each_also (λ (l : Lock). FilesAt (nodes items) l.file.0) (λ (l : Lock). FilesAt (nodes items ++ new ∷ []) l.file.0)
+            (λ l h. each_append (λ (n : Node). n.id.0 ≡ l.file.0 → n.kind ≡ kinds.File) (nodes items) (new ∷ []) h ((λ i. refl), tt))
+            (locks items) s.files;
+        few = each_append (λ (n : Node). n.newest ≤ most + 1) (nodes items) (new ∷ []) (more most (nodes items) s.few) (omega arith, tt);
+        held = omega arith;
+      };
+    }
 
 pub make_stays : (now most : ℕ) (items : List Item) (names : List (List ℕ)) (id : FileId) → Before now most items → id.0 < 2 ^ 64
     → Each (λ (n : Node). n.id.0 ≢ id.0) (nodes items) → (r : OrRefusal ℕ) → DirFits r
@@ -130,19 +139,85 @@ pub look_stays : (now most : ℕ) (items : List Item) (names : List (List ℕ)) 
 look_stays now most items names is (Ok d) = shown_stays now most items is (node_in (nodes items) (record { 0 = d }) (last_name names))
 look_stays now most items names is (Err why) = stay now most items is
 
--- an unlock
-pub locks_stay : (now most : ℕ) (items : List Item) (request : RequestNo) (x : Lock_step) → Before now most items
-    → Stays now (most + 1) (lock_items items request x) (tree_with (nodes items) (locks_after (locks items) request x) (versions items))
-locks_stay now most items request (Unlock file session) is =
-    let away = λ (x : Item). not (is_lock_item request file session x) in
-    let other = λ (l : Lock). not (is_lock_by request file session l) in
-    finish now (most + 1) (filter away items) (nodes items) (filter other (locks items)) (versions items)
-    (nodes_freed request file session items) (locks_freed request file session items) (versions_freed request file session items)
-    (fit_items now (filter away items) (each_filter (λ x. IsEntry now (entry_of x)) away items (items_fit now items is.valid.ranges)))
-    (whole_of now items is.valid)
-    (apart_filter same_lock other (locks items) is.apart)
-    (each_filter (λ (l : Lock). Each (λ (n : Node). n.id.0 ≡ l.file.0 → n.kind ≡ kinds.File) (nodes items)) other (locks items) is.files)
-    (more most (nodes items) is.few)
+-- the tree after a step on locks came to this
+abbrev pub tree_locked : List Item → RequestNo → Lock_step → OrRefusal Lock_outcome → Tree Row
+tree_locked items request x r = tree_with (nodes items) (after_ok (locks items) (locks_after (locks items) request x) r) (versions items)
+
+-- locks that are given back
+freed_stays : (now most count : ℕ) (items : List Item) (request : RequestNo) (x : Lock_step) → Before now most items
+    → Stays now (most + 1) (lock_items items request x (Frees count)) (tree_locked items request x (Ok (Frees count)))
+freed_stays now most count items request x is =
+    let kept = λ (i : Item). not (lock_that (frees request x) i) in
+    let other = λ (l : Lock). not (frees request x l) in
+    let s = is.stand in
+    let held : length (locks items) ≤ most = s.held in
+    let short = short_filter other (locks items) in
+    record {
+      fit = each_filter (Fits now) kept items is.fit;
+      meant = keep_locks kept other (λ n. refl) (λ v. refl) (λ l. refl) items;
+      stand = record {
+        whole = s.whole;
+        apart = apart_filter same_lock other (locks items) s.apart;
+        files = each_filter (λ (l : Lock). FilesAt (nodes items) l.file.0) other (locks items) s.files;
+        few = more most (nodes items) s.few;
+        held = omega arith;
+      };
+    }
+
+-- a lock that is put behind those that stay, none of which is on its file
+put_stays : (now most : ℕ) (items rest : List Item) (ls : List Lock) (l : Lock) → Before now most items → Each (Fits now) rest
+    → tree_of rest ≡ tree_with (nodes items) ls (versions items) → Apart same_lock ls → Each (λ x. same_lock x l ≡ false) ls
+    → LockFiles (nodes items) ls → length ls ≤ most → IsEntry now (entry_of (Of_lock l)) → FilesAt (nodes items) l.file.0
+    → Stays now (most + 1) (rest ++ Of_lock l ∷ []) (tree_with (nodes items) (ls ++ l ∷ []) (versions items))
+put_stays now most items rest ls l is fit left apart other files held fits file =
+    record {
+      fit = each_append (Fits now) rest (Of_lock l ∷ []) fit (fits, tt);
+      meant = lock_behind rest l ∙ ap (λ (t : Tree Row). tree_with t.nodes (t.locks ++ l ∷ []) t.versions) left;
+      stand = record {
+        whole = is.stand.whole;
+        apart = apart_append same_lock ls l apart other;
+        files = each_append (λ (x : Lock). FilesAt (nodes items) x.file.0) ls (l ∷ []) files (file, tt);
+        few = more most (nodes items) is.stand.few;
+        held = simp length-append (omega arith);
+      };
+    }
+
+same_lock_sym : (a b : Lock) → same_lock a b ≡ same_lock b a
+same_lock_sym a b = eqb_sym a.file.0 b.file.0
+
+lock_fits : (now : ℕ) (items : List Item) → Each (Fits now) items → Each (λ l. Fits now (Of_lock l)) (locks items)
+lock_fits now [] h = tt
+lock_fits now (Of_node n ∷ items) h = lock_fits now items h.1
+lock_fits now (Of_version v ∷ items) h = lock_fits now items h.1
+lock_fits now (Of_lock l ∷ items) h = (h.0, lock_fits now items h.1)
+
+-- a lock that is renewed
+renewed_stays : (now most until : ℕ) (items : List Item) (request : RequestNo) (file : FileId) (session : ℕ) → Before now most items
+    → (o : Option Lock) → session_lock (locks items) request file session ≡ o
+    → (let r = renewed until o in
+    Stays now (most + 1) (after_ok items (lock_items items request (Renew file session)) r) (tree_locked items request (Renew file session) r))
+renewed_stays now most until items request file session is None e = stay now most items is
+renewed_stays now most until items request file session is (Some l) e =
+    let own = is_lock_by request file session in
+    let s = is.stand in
+    let held : length (locks items) ≤ most = s.held in
+    let short = short_without own (locks items) in
+    let fits = each_found (λ l. Fits now (Of_lock l)) own (locks items) (lock_fits now items is.fit) l e in
+    put_stays now most items (without_first (lock_that own) items) (without_first own (locks items)) (record l { until = until }) is
+    (each_without (Fits now) (lock_that own) items is.fit) (without_lock own items) (apart_without same_lock own (locks items) s.apart)
+    (each_apart same_lock same_lock_sym own (locks items) s.apart l e)
+    (each_without (λ (x : Lock). FilesAt (nodes items) x.file.0) own (locks items) s.files) (omega arith)
+    (record { file = fits.file; agent = fits.agent; incarnation = fits.incarnation; session = fits.session })
+    (each_found (λ (x : Lock). FilesAt (nodes items) x.file.0) own (locks items) s.files l e)
+
+pub locks_stay : (now most until : ℕ) (items : List Item) (request : RequestNo) (x : Lock_step) → Before now most items
+    → (let r = lock_outcome (locks items) until request x in
+    Stays now (most + 1) (after_ok items (lock_items items request x) r) (tree_locked items request x r))
+locks_stay now most until items request (Unlock file session) is =
+    freed_stays now most (freed (locks items) request (Unlock file session)) items request (Unlock file session) is
+locks_stay now most until items request Unlock_all is = freed_stays now most (freed (locks items) request Unlock_all) items request Unlock_all is
+locks_stay now most until items request (Renew file session) is =
+    renewed_stays now most until items request file session is (session_lock (locks items) request file session) refl
 
 -- the tree after a step for a session came to this
 abbrev pub tree_opened : List Item → RequestNo → OrRefusal (Session_outcome Row) → Tree Row
@@ -188,24 +263,15 @@ file_alone items apart (name ∷ next ∷ names) d =
 
 -- an open for writing
 lock_stays : (now most until : ℕ) (items : List Item) (request : RequestNo) (session : ℕ) (n : Node) → Before now most items → n.id.0 < 2 ^ 64
-    → Each (λ (m : Node). m.id.0 ≡ n.id.0 → m.kind ≡ kinds.File) (nodes items) → request.agent < 2 ^ 8 → request.incarnation < 2 ^ 24
-    → session < 2 ^ 64 → (o : Option Lock) → lock_on (locks items) n.id ≡ o
+    → FilesAt (nodes items) n.id.0 → request.agent < 2 ^ 8 → request.incarnation < 2 ^ 24 → session < 2 ^ 64 → (o : Option Lock)
+    → lock_on (locks items) n.id ≡ o
     → (let r = on_ok (λ (n : Node). Locks (sight_of rows (tree_of items) n) (new_lock request session until n.id)) (unlocked o n) in
     Stays now (most + 1) (after_ok items (session_items items request) r) (tree_opened items request r))
 lock_stays now most until items request session n is small only agent incarnation number (Some l) e = stay now most items is
 lock_stays now most until items request session n is small only agent incarnation number None e =
     let l = new_lock request session until n.id in
-    finish now (most + 1) (items ++ Of_lock l ∷ []) (nodes items) (locks items ++ l ∷ []) (versions items)
-    (filter_map-append item.node_of items (Of_lock l ∷ []) ∙ append-nil (nodes items))
-    (filter_map-append item.lock_of items (Of_lock l ∷ []))
-    (filter_map-append item.version_of items (Of_lock l ∷ []) ∙ append-nil (versions items))
-    (fit_items now (items ++ Of_lock l ∷ []) (each_append (λ x. IsEntry now (entry_of x)) items (Of_lock l ∷ []) (items_fit now items is.valid.ranges)
-    (record { file = small; agent = agent; incarnation = incarnation; session = number }, tt)))
-    (whole_of now items is.valid)
-    (apart_append same_lock (locks items) l is.apart (none_found (λ x. same_lock x l) (locks items) e))
-    (each_append (λ (l : Lock). Each (λ (n : Node). n.id.0 ≡ l.file.0 → n.kind ≡ kinds.File) (nodes items)) (locks items) (l ∷ []) is.files
-    (only, tt))
-    (more most (nodes items) is.few)
+    put_stays now most items items (locks items) l is is.fit refl is.stand.apart (none_found (λ x. same_lock x l) (locks items) e)
+    is.stand.files is.stand.held (record { file = small; agent = agent; incarnation = incarnation; session = number }) only
 
 pub write_stays : (now most until : ℕ) (items : List Item) (request : RequestNo) (session : ℕ) → Before now most items → request.agent < 2 ^ 8
     → request.incarnation < 2 ^ 24 → session < 2 ^ 64 → (r : OrRefusal anchor.Node) → FileFits r → Alone (nodes items) r

@@ -62,7 +62,7 @@ LockFiles nodes locks = Each (λ (l : Lock). Each (λ (n : Node). n.id.0 ≡ l.f
 abbrev pub HaveAtMost : ℕ → List Node → Type 0
 HaveAtMost most nodes = Each (λ (n : Node). n.newest ≤ most) nodes
 
--- at a moment tuples hold a tree in which no file has more versions than this
+-- at a moment tuples hold a tree in which no file has more versions than this, and which has no more locks
 pub record Holds (now most : ℕ) (tuples : List Tuple) (tree : Tree Row) : Type 0 where
   pub items : List Item
   pub said : tuples ≡ space_of items
@@ -70,6 +70,7 @@ pub record Holds (now most : ℕ) (tuples : List Tuple) (tree : Tree Row) : Type
   pub valid : IsTree now (entries_of items)
   pub files : LockFiles tree.nodes tree.locks
   pub few : HaveAtMost most tree.nodes
+  pub held : length tree.locks ≤ most
 
 -- a step on the tuples of a tree does what it does to the tree: they hold the tree left, and the reply is that of its outcome, whose
 -- numbers fit
@@ -88,9 +89,9 @@ HoldsOn =
     (now later most more : ℕ) (tuples : List Tuple) (tree : Tree Row) → Holds now most tuples tree → now ≤ later → most ≤ more
     → Holds later more tuples tree
 
--- each step that an agent asks does to the tuples what it does to the tree
+-- each step that an agent asks does to the tuples what it does to the tree, where the end of a lock that is put now fits
 abbrev pub StepsServeAlike : Type 0
 StepsServeAlike =
     (now most lease : ℕ) (tuples : List Tuple) (tree : Tree Row) (request : RequestNo) (step : Step Row) → Holds now most tuples tree
-    → most < 1000000 → IsRequest request → IsAskable request step → IsFresh tree.nodes step
+    → most < 1000000 → now + lease < 2 ^ 64 → IsRequest request → IsAskable request step → IsFresh tree.nodes step
     → ServesAlike now most lease tuples request step (served rows (live now tree) now lease request step)

@@ -14,12 +14,9 @@ pub data Item : Type 0 where
   Of_version : Row → Item
   Of_lock : Lock → Item
 
--- a version as the space's code has it, and back
+-- a version as the space's code has it
 abbrev pub row_said : Row → VersionRow
 row_said v = record { id = v.file; number = v.number; root = v.root; content = v.content; length = v.length; upload = v.upload; time = v.moment }
-
-abbrev pub row_meant : VersionRow → Row
-row_meant r = record { file = r.id; number = r.number; upload = r.upload; root = r.root; content = r.content; length = r.length; moment = r.time }
 
 -- a node and a lock as entries say them
 abbrev pub node_said : Node → anchor.Node

@@ -1,7 +1,6 @@
 pub mod Fields
 pub mod Holding
 pub mod Items
-pub mod Laws
 pub mod Names
 pub mod Plans
 pub mod Replies

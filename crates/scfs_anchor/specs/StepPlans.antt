@@ -10,12 +10,12 @@ use Rattle.scfs_tuples.specs.declared.types.Template.{Template}
 use Rattle.scfs_tuples.specs.declared.types.Step.{Step}
 use Rattle.scfs_model.specs.Layers.{Row}
 use Rattle.scfs_model.specs.NameSteps.{Name_step, Make, Look}
-use Rattle.scfs_model.specs.LockSteps.{Lock_step, Unlock}
+use Rattle.scfs_model.specs.LockSteps.{Lock_step, Unlock, Unlock_all, Renew}
 use Rattle.scfs_model.specs.SessionSteps.{Session_step, Open_read, Open_write, Commit}
 use Rattle.scfs_model.specs.Steps.{On_names, On_locks, On_sessions}
 use Rattle.scfs_model.specs.Steps as machine
 use Rattle.scfs_anchor.specs.Shapes.{node, text, directory, given, given_text, root}
-use Rattle.scfs_anchor.specs.Plans.{Condition, needs, reach, before_last, Plan, step_of, open_read, open_write, commit, unlock}
+use Rattle.scfs_anchor.specs.Plans.{Condition, needs, reach, before_last, Plan, step_of, open_read, open_write, commit, renew, unlock, unlock_all}
 use Rattle.scfs_anchor.specs.Items.{row_said}
 
 -- The plan of each step of the machine.
@@ -69,9 +69,11 @@ abbrev pub name_plan : Name_step → Plan
 name_plan (Make names id) = create names id
 name_plan (Look names) = stat names
 
--- the plan of a step on locks, by the agent and in the incarnation of its request
-abbrev pub lock_plan : RequestNo → Lock_step → Plan
-lock_plan request (Unlock file session) = unlock file request.agent request.incarnation session
+-- the plan of a step on locks, by the agent and in the incarnation of its request, where a lock lives so long
+abbrev pub lock_plan : (lease : ℕ) → RequestNo → Lock_step → Plan
+lock_plan lease request (Unlock file session) = unlock file request.agent request.incarnation session
+lock_plan lease request Unlock_all = unlock_all request.agent
+lock_plan lease request (Renew file session) = renew file request.agent request.incarnation session lease
 
 -- the plan of a step for a session, where a lock lives so long
 abbrev pub session_plan : (lease : ℕ) → RequestNo → Session_step Row → Plan
@@ -81,7 +83,7 @@ session_plan lease request (Commit session v) = commit (row_said v) session
 
 abbrev pub plan_of : (lease : ℕ) → RequestNo → machine.Step Row → Plan
 plan_of lease request (On_names x) = name_plan x
-plan_of lease request (On_locks x) = lock_plan request x
+plan_of lease request (On_locks x) = lock_plan lease request x
 plan_of lease request (On_sessions x) = session_plan lease request x
 
 -- what is asked of the space

@@ -1,4 +1,4 @@
-use Rattle.std.specs.Prelude.{◌≡◌, ◌<◌, ◌≤◌, ◌^◌, ℕ, List, [], ◌∷◌, ◌++◌, Option, Some, None, option_map, Ok, Err}
+use Rattle.std.specs.Prelude.{◌≡◌, ◌<◌, ◌≤◌, ◌+◌, ◌^◌, ℕ, List, [], ◌∷◌, ◌++◌, Option, Some, None, option_map, Ok, Err}
 use Rattle.scfs_base.specs.declared.naming.RequestNo.{RequestNo}
 use Rattle.scfs_schedule.specs.declared.types.Refusal.{Refusal}
 use Rattle.scfs_base.specs.Limits.{contents_limit}
@@ -13,7 +13,7 @@ use Rattle.scfs_model.specs.Layers.{Row}
 use Rattle.scfs_model.specs.Tree.{Node, Lock}
 use Rattle.scfs_model.specs.Walks.{OrRefusal, root_node}
 use Rattle.scfs_model.specs.NameSteps.{Name_step, Make, Look, Name_outcome, Makes, Shows}
-use Rattle.scfs_model.specs.LockSteps.{Lock_step, Lock_outcome, Frees}
+use Rattle.scfs_model.specs.LockSteps.{Lock_step, Unlock, Unlock_all, Renew, Lock_outcome, Frees, Renews}
 use Rattle.scfs_model.specs.SessionSteps.{Session_step, Open_read, Open_write, Commit, Session_outcome, Sees, Locks, Completes}
 use Rattle.scfs_model.specs.SessionSteps as machine
 use Rattle.scfs_model.specs.Steps.{Outcome, Of_names, Of_locks, Of_sessions}
@@ -49,6 +49,10 @@ abbrev pub HasTaken : ℕ → StepResult → Type 0
 HasTaken count (results.Did bound taken rows) = taken ≡ count
 HasTaken count (results.Refused index found) = ⊥
 
+-- a lock was put at the moment of the reply, to live so long
+abbrev pub LivesFrom : Reply → (lease : ℕ) → Lock → Type 0
+LivesFrom reply lease l = reply.now + lease ≡ l.until
+
 -- a sight by its row and by who holds the lock
 abbrev pub sight_said : machine.Sight Row → Sight
 sight_said sight =
@@ -67,22 +71,26 @@ IsNameReply (Look names) (Ok (Shows n)) reply = HasShown names n reply.result
 IsNameReply x other reply = ⊥
 
 -- to a step on locks
-abbrev pub IsLockReply : RequestNo → Lock_step → OrRefusal Lock_outcome → Reply → Type 0
-IsLockReply request x (Err why) reply = IsRefusal (step_of (lock_plan request x)) why reply.result
-IsLockReply request x (Ok (Frees count)) reply = HasTaken count reply.result
+abbrev pub IsLockReply : (lease : ℕ) → RequestNo → Lock_step → OrRefusal Lock_outcome → Reply → Type 0
+IsLockReply lease request x (Err why) reply = IsRefusal (step_of (lock_plan lease request x)) why reply.result
+IsLockReply lease request (Unlock file session) (Ok (Frees count)) reply = HasTaken count reply.result
+IsLockReply lease request Unlock_all (Ok (Frees count)) reply = HasTaken count reply.result
+IsLockReply lease request (Renew file session) (Ok (Renews l)) reply = IsDone reply.result × LivesFrom reply lease l
+IsLockReply lease request x other reply = ⊥
 
 -- to a step for a session
 abbrev pub IsSessionReply : (lease : ℕ) → RequestNo → Session_step Row → OrRefusal (Session_outcome Row) → Reply → Type 0
 IsSessionReply lease request x (Err why) reply = IsRefusal (step_of (session_plan lease request x)) why reply.result
 IsSessionReply lease request (Open_read names session) (Ok (Sees sight)) reply = ShowsSight reply (sight_said sight)
-IsSessionReply lease request (Open_write names session) (Ok (Locks sight l)) reply = ShowsSight reply (sight_said sight)
+IsSessionReply lease request (Open_write names session) (Ok (Locks sight l)) reply =
+    ShowsSight reply (sight_said sight) × LivesFrom reply lease l
 IsSessionReply lease request (Commit session v) (Ok (Completes of it n)) reply = IsDone reply.result
 IsSessionReply lease request x other reply = ⊥
 
 -- a reply of the space is that of a step that came to this
 abbrev pub IsReplyTo : (lease : ℕ) → RequestNo → Outcome Row → Reply → Type 0
 IsReplyTo lease request (Of_names x r) reply = IsNameReply x r reply
-IsReplyTo lease request (Of_locks x r) reply = IsLockReply request x r reply
+IsReplyTo lease request (Of_locks x r) reply = IsLockReply lease request x r reply
 IsReplyTo lease request (Of_sessions x r) reply = IsSessionReply lease request x r reply
 
 -- the numbers of an outcome that an agent answers with fit their fields
@@ -104,18 +112,22 @@ FitsNames (Look []) (Ok (Shows n)) = n ≡ root_node
 FitsNames (Look (name ∷ names)) (Ok (Shows n)) = FitsNode n
 FitsNames x other = ⊥
 
-abbrev pub FitsLocks : OrRefusal Lock_outcome → Type 0
-FitsLocks (Err why) = Unit {0}
-FitsLocks (Ok (Frees count)) = count < 2 ^ 64
+-- only a renewal is refused
+abbrev pub FitsLocks : Lock_step → OrRefusal Lock_outcome → Type 0
+FitsLocks (Unlock file session) (Ok (Frees count)) = count < 2 ^ 64
+FitsLocks Unlock_all (Ok (Frees count)) = count < 2 ^ 64
+FitsLocks (Renew file session) (Ok (Renews l)) = l.until < 2 ^ 64
+FitsLocks (Renew file session) (Err why) = Unit {0}
+FitsLocks x other = ⊥
 
 abbrev pub FitsSessions : Session_step Row → OrRefusal (Session_outcome Row) → Type 0
 FitsSessions x (Err why) = Unit {0}
 FitsSessions (Open_read names session) (Ok (Sees sight)) = FitsSight sight
-FitsSessions (Open_write names session) (Ok (Locks sight l)) = FitsSight sight
+FitsSessions (Open_write names session) (Ok (Locks sight l)) = FitsSight sight × (l.until < 2 ^ 64)
 FitsSessions (Commit session v) (Ok (Completes of it n)) = (of ≡ session) × (it.number ≡ v.number)
 FitsSessions x other = ⊥
 
 abbrev pub FitsOutcome : Outcome Row → Type 0
 FitsOutcome (Of_names x r) = FitsNames x r
-FitsOutcome (Of_locks x r) = FitsLocks r
+FitsOutcome (Of_locks x r) = FitsLocks x r
 FitsOutcome (Of_sessions x r) = FitsSessions x r

@@ -1,4 +1,4 @@
-use Rattle.std.specs.Prelude.{◌≡◌, ℕ, ◌+◌, ◌^◌, ◌<◌, ◌≤◌, List, [], ◌∷◌, ◌++◌, codes, map, filter, find, Option, Some, None, MatchOption, Result, Ok, Err, Bool, true, false, ◌&&◌, ◌==◌, zero, suc}
+use Rattle.std.specs.Prelude.{◌≡◌, ℕ, ◌^◌, ◌<◌, ◌≤◌, List, [], ◌∷◌, codes, map, filter, find, Option, Some, None, MatchOption, Result, Ok, Err, Bool, true, false, ◌&&◌, ◌==◌, zero, suc}
 use Rattle.std.specs.List.{filter_map, list_any}
 use Rattle.std.specs.Option.{option_map}
 use Rattle.std.specs.Str.{bytes_eq}
@@ -7,7 +7,7 @@ use Rattle.scfs_base.specs.declared.naming.UploadNo.{UploadNo}
 use Rattle.scfs_schedule.specs.declared.types.Kind.{Kind}
 use Rattle.scfs_schedule.specs.declared.types.Kind.TheVariants.{File, Dir}
 use Rattle.scfs_schedule.specs.declared.types.Refusal.{Refusal}
-use Rattle.scfs_schedule.specs.declared.types.Refusal.TheVariants.{NoEntry, NotDir, IsDir, NoVersion, Locked}
+use Rattle.scfs_schedule.specs.declared.types.Refusal.TheVariants.{NoEntry, NotDir, IsDir}
 use Rattle.scfs_tuples.specs.After.{is_live}
 use Rattle.scfs_tuples.specs.declared.types.Field.TheVariants.{Num, Text}
 use Rattle.scfs_tuples.specs.declared.types.Tuple.{Tuple}
@@ -162,51 +162,15 @@ file_at nodes dir (name ∷ next ∷ names) =
 abbrev pub held : Lock → ℕ × ℕ × ℕ
 held l = (l.agent, l.incarnation, l.session)
 
--- what an open sees of a file, where this is the row of the version that it opens
-abbrev pub sight_with : List Entry → Node → Option VersionRow → Sight
-sight_with entries n row =
-    record { id = n.id; newest = n.newest; row = row; lock = option_map held (lock_on (locks_of entries) n.id) }
-
--- a version that is asked for has to be there
-abbrev pub seen_version : List Entry → Node → Option VersionRow → Result Sight Refusal
-seen_version entries n None = Err NoVersion
-seen_version entries n (Some row) = Ok (sight_with entries n (Some row))
-
--- what an open for reading sees of a file: of its newest version, or of the one that is asked for; version 0 has no row
-abbrev pub seen_of : List Entry → Option ℕ → Node → Result Sight Refusal
-seen_of entries None n = Ok (sight_with entries n (version_of (versions_of entries) n.id n.newest))
-seen_of entries (Some zero) n = Ok (sight_with entries n None)
-seen_of entries (Some (suc v)) n = seen_version entries n (version_of (versions_of entries) n.id (suc v))
-
--- what is seen where there is no lock; a lock refuses it with its agent
-abbrev pub unless_locked : Option Lock → Sight → Result Sight Refusal
-unless_locked None seen = Ok seen
-unless_locked (Some l) seen = Err (Locked l.agent)
-
--- what an open for writing sees of a file, unless there is a lock on it
-abbrev pub seen_locked : List Entry → Node → Result Sight Refusal
-seen_locked entries n =
-    unless_locked (lock_on (locks_of entries) n.id) (sight_with entries n (version_of (versions_of entries) n.id n.newest))
-
--- the lock of a session on a file that begins at a moment and lives so long
-abbrev pub new_lock_of : (now agent incarnation session life : ℕ) → Node → Lock
-new_lock_of now agent incarnation session life n =
-    record { file = n.id; agent = agent; incarnation = incarnation; session = session; until = Some (now + life) }
-
--- with this lock, unless there is one
-abbrev pub with_lock : List Entry → Option Lock → Lock → List Entry
-with_lock entries None l = entries ++ OfLock l ∷ []
-with_lock entries (Some there) l = entries
-
--- what is said after an open for writing, which takes this lock
-abbrev pub entries_locked : List Entry → (Node → Lock) → Result Node Refusal → List Entry
-entries_locked entries taken (Ok n) = with_lock entries (lock_on (locks_of entries) n.id) (taken n)
-entries_locked entries taken (Err refusal) = entries
-
--- what is seen of a file, or the refusal on the way to it
-abbrev pub seen_at : (Node → Result Sight Refusal) → Result Node Refusal → Result Sight Refusal
-seen_at see (Ok n) = see n
-seen_at see (Err refusal) = Err refusal
+-- what an open sees of a file
+abbrev pub sight_of : List Entry → Node → Sight
+sight_of entries n =
+    record {
+      id = n.id;
+      newest = n.newest;
+      row = version_of (versions_of entries) n.id n.newest;
+      lock = option_map held (lock_on (locks_of entries) n.id);
+    }
 
 -- it holds of each item
 abbrev pub Each : {A : Type 0} → (A → Type 0) → List A → Type 0
@@ -285,8 +249,3 @@ pub record IsTree (now : ℕ) (entries : List Entry) : Type 0 where
   pub numbers : Each (λ row. 1 ≤ row.number) (versions_of entries)
   pub owners : Each (λ row. IsOf (node_of (nodes_of entries) row.id) (gone_of entries) row) (versions_of entries)
   pub buried : Each (λ id. node_of (nodes_of entries) id ≡ None) (gone_of entries)
-
--- tuples stand for a tree: they say it, in their order
-pub record StandsForTree (now : ℕ) (tuples : List Tuple) (entries : List Entry) : Type 0 where
-  pub said : tuples ≡ tuples_of entries
-  pub tree : IsTree now entries

@@ -15,8 +15,7 @@ mod steps;
 pub use conditions::ask_directory;
 pub use fields::number_at;
 pub use laws::{
-    locks_are_taken_as_by_the_tree, looks_answer_as_the_tree, no_tuples_hold_the_empty_tree,
-    opens_answer_as_the_tree, steps_serve_as_on_the_machine, tuples_hold_the_tree_later,
+    no_tuples_hold_the_empty_tree, steps_serve_as_on_the_machine, tuples_hold_the_tree_later,
 };
 pub use name_steps::{create, stat};
 pub use path::Path;

@@ -1,4 +1,4 @@
-use Rattle.std.proofs.Common.{◌≡◌, ◌≤◌, ◌^◌, ℕ, ◌+◌, suc, List, [], ◌∷◌, ◌++◌, ⊎_elim, refl, ap, ◌∙◌, sym, subst, Option, Some, None, length, arith, Bool, false, true, if◌then◌else◌, inl, inr}
+use Rattle.std.proofs.Common.{◌≡◌, ◌<◌, ◌≤◌, ◌^◌, ℕ, ◌+◌, suc, List, [], ◌∷◌, ◌++◌, ⊎_elim, refl, ap, ◌∙◌, sym, subst, Option, Some, None, length, arith, Bool, false, true, if◌then◌else◌, inl, inr}
 use Rattle.std.specs.Prelude.{IfSome}
 use Rattle.scfs_base.specs.Outside.{Puts}
 use Rattle.scfs_policy.specs.declared.rank.RankFacts.{RankFacts}
@@ -121,7 +121,7 @@ nothing_known allows header = record {
 
 -- with one event more
 pub known_next : (allows : RankFacts → ℕ → Type 0) (header : Header) (past : History) (event : Event) (entry : Entry) → NoClashBefore → ((s : Setup) (past : History) → Happens s past → ReadsHeld s past) →
-    ((s : Setup) (past : History) → length past ≤ 2 ^ 32 → Happens s past → OpensNewest past) → length (entry ∷ past) ≤ 2 ^ 32 →
+    ((s : Setup) (past : History) → length past < 2 ^ 24 → Happens s past → OpensNewest past) → length (entry ∷ past) < 2 ^ 24 →
     Known allows header past → IsNext allows header past event entry → Known allows header (entry ∷ past)
 known_next allows header past event entry before held newest few known next = record {
   plays = next.plays;

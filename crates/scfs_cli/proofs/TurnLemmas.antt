@@ -69,7 +69,7 @@ LargeAt allows header past event h clouds =
 
 -- an event that is too large for a world is so for the history that it stands for
 pub too_large_next : (allows : RankFacts → ℕ → Type 0) (header : Header) (past : History) (world : WorldState) (event : Event)
-    → StatesAreWhole → Stands world header past → Happens (under header) past → length past ≤ 2 ^ 32 → IsTooLarge allows world event
+    → StatesAreWhole → Stands world header past → Happens (under header) past → length past < 2 ^ 24 → IsTooLarge allows world event
     → IsTooLargeNext allows header past event
 too_large_next allows header past world event whole stands happens few large =
     subst (λ h. LargeAt allows header past event h (net (under header) past)) stands.by_header

@@ -8,6 +8,8 @@ mod closing;
 mod edges;
 mod limits;
 #[cfg(test)]
+mod lives;
+#[cfg(test)]
 mod malformed;
 mod play;
 #[cfg(test)]

@@ -5,7 +5,7 @@ use std::test::Fail;
 // Runs of several agents over four or ten clouds. What they write was worked out by another implementation.
 
 /// Two agents over four clouds.
-const PAIR: &str = "\
+pub const PAIR: &str = "\
     scfs 1\nf 1\nlease 100\nstale 0\n\
     agent 0 blocking 0000000000000000000000000000000000000000000000000000000000000000\n\
     agent 1 blocking 0000000000000000000000000000000000000000000000000000000000000000\nbegin\n";

@@ -85,10 +85,22 @@ module _ {V : Type 0} (s : Setup) (vs : Versions V) (a : ℕ) where
         omega (arith, n.2, h.2),
         omega (arith, n.3, h.3),
         each-append _ first.steps second.steps
-            (each-map _ _ (λ x d. (d.0, d.1, d.2, omega (arith, d.3, n.1), makes_wider a (files_by g) (files_by m) (files_by g) (files_by l) x.step
-            (le_refl _) (omega (arith, n.0, n.2)) d.4)) first.steps h.4)
-            (each-map _ _ (λ x d. (d.0, omega (arith, d.1, h.0), omega (arith, d.2, h.1), d.3, makes_wider a (files_by m) (files_by l) (files_by g) (files_by l)
-            x.step (omega (arith, h.0, h.2)) (le_refl _) d.4)) second.steps n.4),
+            (each-map _ _ (λ x d. (
+              d.0,
+              d.1,
+              d.2,
+              omega (arith, d.3, n.1),
+              makes_wider a (files_by g) (files_by m) (files_by g) (files_by l) x.step
+                  (le_refl _) (omega (arith, n.0, n.2)) d.4,
+            )) first.steps h.4)
+            (each-map _ _ (λ x d. (
+              d.0,
+              omega (arith, d.1, h.0),
+              omega (arith, d.2, h.1),
+              d.3,
+              makes_wider a (files_by m) (files_by l) (files_by g) (files_by l)
+                  x.step (omega (arith, h.0, h.2)) (le_refl _) d.4,
+            )) second.steps n.4),
         pairs-join Apart first.steps second.steps h.5 n.5
             (each-map _ _ (λ x d. each-map _ _ (λ y f. (
               (λ one same. omega (arith, same, d.3, f.2)),

@@ -66,9 +66,28 @@ still n same = (lock 100, ap (filter (λ (m : Lock). same_file m.file (file_id 0
 
 since : Since 16
 unfolding hex_pair
-since =
-    (still 16 refl, inr (still 15 refl, inr (still 14 refl, inr (still 13 refl, inr (still 12 refl, inr (still 11 refl, inr (still 10 refl,
-    inr (still 9 refl, inr (still 8 refl, inr (still 7 refl, inr (still 6 refl, inr locked)))))))))))
+since = (
+  still 16 refl,
+  inr (
+    still 15 refl,
+    inr (
+      still 14 refl,
+      inr (
+        still 13 refl,
+        inr (
+          still 12 refl,
+          inr (
+            still 11 refl,
+            inr (
+              still 10 refl,
+              inr (still 9 refl, inr (still 8 refl, inr (still 7 refl, inr (still 6 refl, inr locked)))),
+            ),
+          ),
+        ),
+      ),
+    ),
+  ),
+)
 
 fenced : Serves (actual s (after once 16)) (entry_of s (after once 16) (events.Space 0)) (request_no 0 0 7)
     (Commit 1 (record { file = file_id 0 0 1; number = 1; upload = upload_no 0 0 1; root = short_root (upload_no 0 0 1); content = record { 0 = hi }; length = 2; moment = 0 }))

@@ -36,29 +36,29 @@ pub mod HeldStands
 pub mod HeldSpace
 pub mod HeldPlaces
 pub mod HeldReads
-mod HeldPlayed
+pub mod HeldPlayed
 pub mod Moves
 pub mod Ways
 pub mod Seats
-mod Commits
+pub mod Commits
 pub mod AckedMoves
 pub mod AckedLaw
-mod DrawnMoves
-mod DrawnServes
-mod DrawnSeats
-mod NamesWalks
-mod NamesEvents
-mod NamesSteps
-mod NamesApart
-mod NamesLocks
-mod NewestLines
-mod NewestMoves
-mod NewestShown
-mod Fenced
-mod FencedPlayed
-mod AckedPlayed
-mod NewestVersions
-mod NewestTree
-mod NewestServes
-mod NewestOpens
-mod NewestRuns
+pub mod DrawnMoves
+pub mod DrawnServes
+pub mod DrawnSeats
+pub mod NamesWalks
+pub mod NamesEvents
+pub mod NamesSteps
+pub mod NamesApart
+pub mod NamesLocks
+pub mod NewestLines
+pub mod NewestMoves
+pub mod NewestShown
+pub mod Fenced
+pub mod FencedPlayed
+pub mod AckedPlayed
+pub mod NewestVersions
+pub mod NewestTree
+pub mod NewestServes
+pub mod NewestOpens
+pub mod NewestRuns

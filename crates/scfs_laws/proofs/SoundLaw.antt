@@ -107,8 +107,11 @@ module _ (header : Header) (whole : List (List ℕ)) (few : header.f ≤ 3) (apa
       (asked_is x.cloud x.body (among_front mine others whole h), sent_is sent (among_back mine others whole h))
 
   first_is : IsState s Among (first_state s)
-  first_is = (tt, places_replicate (IsSeat (parts s Among)) (length header.agents) (first_seat s)
-      (λ a. record { agent = (tt, All-nil IsSession, tt); steps = tt; replies = tt }))
+  first_is = (
+    tt,
+    places_replicate (IsSeat (parts s Among)) (length header.agents) (first_seat s)
+        (λ a. record { agent = (tt, All-nil IsSession, tt); steps = tt; replies = tt }),
+  )
 
   past_is_sound : (past : History) → IsServed s past → AreEvents header past → AreAmong (blocks header past) whole
       → IsSound s past × IsState s Among (mapped s past)

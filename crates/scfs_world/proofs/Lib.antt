@@ -1,15 +1,13 @@
-mod DrawnWalk
-mod DrawnSteps
-mod ServedIds
 mod WholeSeats
 mod WholeStates
 mod WholeLaw
 mod ServedLines
 mod OutputLemmas
 mod TogetherLemmas
+mod FitLemmas
 mod InputLemmas
-mod SeatLemmas
 mod DoneLemmas
+mod SeatLemmas
 mod WorldLemmas
 mod CloudLemmas
 mod GiveLemmas

@@ -1,5 +1,5 @@
 -- The world before its first event.
-use Rattle.std.proofs.Common.{◌≡◌, ℕ, zero, suc, ◌+◌, ◌*◌, ◌≤◌, List, [], ◌∷◌, ◌++◌, map, length, replicate, refl, ap, sym, subst, ◌∙◌, arith, All, add-one}
+use Rattle.std.proofs.Common.{◌≡◌, ℕ, zero, suc, ◌+◌, ◌*◌, List, [], ◌∷◌, ◌++◌, map, length, replicate, refl, ap, sym, subst, ◌∙◌, arith, All, add-one}
 use Rattle.std.proofs.lemmas.List.{length-replicate}
 use Rattle.std.specs.List.{range_with_len}
 use Rattle.std.proofs.lemmas.List.FromFn.{length-map-range_with_len}
@@ -7,7 +7,8 @@ use Rattle.std.proofs.lemmas.List.Elements.{All-nil, All-cons}
 use Rattle.scfs_schedule.specs.Grammar.{IsHeader}
 use Rattle.scfs_schedule.specs.declared.types.Header.{Header}
 use Rattle.scfs_tuples.specs.Steps.{IsStep}
-use Rattle.scfs_net.specs.Queues.{new_net, new_cloud}
+use Rattle.scfs_tuples.specs.declared.types.Tuple.{Tuple}
+use Rattle.scfs_net.specs.Queues.{NetState, new_net, new_cloud}
 use Rattle.scfs_anchor.proofs.HoldLemmas.{empty_holds}
 use Rattle.scfs_model.specs.Agents.{first_agent}
 use Rattle.scfs_model.specs.Lists.{below}
@@ -44,10 +45,20 @@ first_seats header first (suc n) = (
   first_seats header (first + 1) n,
 )
 
-module _ (header : Header) (w : WorldState) (is : w ≡ record { header = header; clock = 0; events = 0; space = []; seats = new_seats header (length header.agents); net = new_net header.f }) where
-  pub new_stands : Stands w header []
+module _ (header : Header) (space : List Tuple) (seats : List SeatState) (net : NetState) (none : space ≡ [])
+    (all : seats ≡ new_seats header (length header.agents)) (clouds : net ≡ new_net header.f) where
+  abbrev pub First : List Tuple → List SeatState → NetState → WorldState
+  First ts ss n = record { header = header; clock = 0; events = 0; space = ts; seats = ss; net = n }
+
+  -- what holds of the world with no tuples, new seats and new clouds holds of it
+  first_is : (P : WorldState → Type 0) → P (First [] (new_seats header (length header.agents)) (new_net header.f)) → P (First space seats net)
+  first_is P h =
+      subst (λ ts. P (First ts seats net)) (sym none)
+      (subst (λ ss. P (First [] ss net)) (sym all) (subst (λ n. P (First [] (new_seats header (length header.agents)) n)) (sym clouds) h))
+
+  pub new_stands : Stands (First space seats net) header []
   new_stands =
-      subst (λ (x : WorldState). Stands x header []) (sym is)
+      first_is (λ w. Stands w header [])
       (record {
         by_header = refl;
         count = refl;
@@ -55,9 +66,9 @@ module _ (header : Header) (w : WorldState) (is : w ≡ record { header = header
         clouds = refl;
       })
 
-  pub new_world : IsHeader header → IsWorld w
+  pub new_world : IsHeader header → IsWorld (First space seats net)
   new_world fits =
-      subst IsWorld (sym is)
+      first_is IsWorld
       (record {
         header = fits;
         clock = omega arith;

@@ -11,8 +11,7 @@ use Rattle.scfs_model.specs.Sayings.{Saying, said_by}
 use Rattle.scfs_model.specs.Agents.{Request, Sent, Reaction}
 use Rattle.scfs_model.specs.States.{request_line}
 use Rattle.scfs_agent.specs.Keeping.{FitsOutput}
-use Rattle.scfs_agent.specs.Outputs.{said_outputs, step_output, sent_outputs, outputs_of}
-use Rattle.scfs_agent.specs.State.{AgentState}
+use Rattle.scfs_agent.specs.Outputs.{said_outputs, step_output, sent_outputs, outputs_by}
 use Rattle.scfs_agent.specs.declared.types.Output.{Output}
 use Rattle.scfs_agent.specs.declared.types.Output.TheVariants as outputs
 use Rattle.scfs_world.specs.Doing.{step_out, steps_out, lines_out, net_by, net_with, AsksAmong}
@@ -51,7 +50,8 @@ module _ (s : Setup) (a lease : ℕ) where
   net_sent [] net = refl
   net_sent (x ∷ rest) net = net_sent rest (asked_by net x)
 
-  net_steps : (net : NetState) (steps : List (Request Row)) (rest : List Output) → net_with net (map (step_output lease) steps ++ rest) ≡ net_with net rest
+  net_steps : (net : NetState) (steps : List (Request Row)) (rest : List Output)
+      → net_with net (map (step_output lease) steps ++ rest) ≡ net_with net rest
   net_steps net [] rest = refl
   net_steps net (x ∷ steps) rest = net_steps net steps rest
 
@@ -60,33 +60,33 @@ module _ (s : Setup) (a lease : ℕ) where
   net_says net (x ∷ says) rest = net_says net says rest
 
 -- of a whole reaction
-module _ (s : Setup) (a : AgentState) (r : Reaction Row) where
-  abbrev Said : List Output
-  Said = said_outputs a.no r.says
-
+module _ (s : Setup) (a lease : ℕ) (r : Reaction Row) (given : List Output) (is : given ≡ outputs_by a lease r) where
   abbrev Steps : List Output
-  Steps = map (step_output a.header.lease) r.steps
+  Steps = map (step_output lease) r.steps
+
+  abbrev Said : List Output
+  Said = said_outputs a r.says
 
   abbrev Asked : List Output
   Asked = sent_outputs r.sent
 
-  pub lines_reacted : (given : List Output) → given ≡ outputs_of a r
-      → lines_out s given ≡ map (said_by a.no) r.says ++ map (λ (x : Sent). request_line s x.number x.cloud x.body) r.sent
-  lines_reacted given is =
-      ap (lines_out s) (is ∙ append_assoc Said Steps Asked) ∙ lines_says s a.no a.header.lease r.says (Steps ++ Asked)
-      ∙ ap (λ ls. map (said_by a.no) r.says ++ ls) (lines_steps s a.no a.header.lease r.steps Asked ∙ lines_sent s a.no a.header.lease r.sent)
+  split : given ≡ Steps ++ (Said ++ Asked)
+  split = is ∙ append_assoc Steps Said Asked
 
-  pub steps_reacted : (given : List Output) → given ≡ outputs_of a r → steps_out given ≡ map (step_asked a.header.lease) r.steps
-  steps_reacted given is =
-      ap steps_out (is ∙ append_assoc Said Steps Asked) ∙ steps_says s a.no a.header.lease r.says (Steps ++ Asked)
-      ∙ steps_steps s a.no a.header.lease r.steps Asked
-      ∙ ap (λ xs. map (step_asked a.header.lease) r.steps ++ xs) (steps_sent s a.no a.header.lease r.sent)
-      ∙ append-nil (map (step_asked a.header.lease) r.steps)
+  pub lines_reacted : lines_out s given ≡ map (said_by a) r.says ++ map (λ (x : Sent). request_line s x.number x.cloud x.body) r.sent
+  lines_reacted =
+      ap (lines_out s) split ∙ lines_steps s a lease r.steps (Said ++ Asked) ∙ lines_says s a lease r.says Asked
+      ∙ ap (λ ls. map (said_by a) r.says ++ ls) (lines_sent s a lease r.sent)
 
-  pub net_reacted : (net : NetState) (given : List Output) → given ≡ outputs_of a r → net_with net given ≡ all_asked net r.sent
-  net_reacted net given is =
-      ap (net_with net) (is ∙ append_assoc Said Steps Asked) ∙ net_says s a.no a.header.lease net r.says (Steps ++ Asked)
-      ∙ net_steps s a.no a.header.lease net r.steps Asked ∙ net_sent s a.no a.header.lease r.sent net
+  pub steps_reacted : steps_out given ≡ map (step_asked lease) r.steps
+  steps_reacted =
+      ap steps_out split ∙ steps_steps s a lease r.steps (Said ++ Asked)
+      ∙ ap (λ xs. map (step_asked lease) r.steps ++ xs) (steps_says s a lease r.says Asked ∙ steps_sent s a lease r.sent)
+      ∙ append-nil (map (step_asked lease) r.steps)
+
+  pub net_reacted : (net : NetState) → net_with net given ≡ all_asked net r.sent
+  net_reacted net =
+      ap (net_with net) split ∙ net_steps s a lease net r.steps (Said ++ Asked) ∙ net_says s a lease net r.says Asked ∙ net_sent s a lease r.sent net
 
 -- outputs at the clouds and among the steps that wait
 

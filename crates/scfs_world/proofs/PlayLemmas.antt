@@ -1,5 +1,5 @@
 -- A history that was played, with one event more.
-use Rattle.std.proofs.Common.{◌≡◌, ℕ, ◌+◌, ◌^◌, ◌<◌, ◌≤◌, List, ◌∷◌, refl, ap, ◌∙◌, subst, arith}
+use Rattle.std.proofs.Common.{◌≡◌, ℕ, ◌+◌, ◌<◌, ◌≤◌, List, ◌∷◌, refl, ap, ◌∙◌, subst, arith}
 use Rattle.scfs_base.specs.Limits.{carried_limit}
 use Rattle.scfs_policy.specs.declared.rank.RankFacts.{RankFacts}
 use Rattle.scfs_schedule.specs.Grammar.{IsHeader, IsEvent}
@@ -54,5 +54,6 @@ plays_on allows old new event given world is brings room same_header count carri
         clouds = clouds;
       },
       played,
-      λ apart. (runs_without_clash header (e ∷ past) (subst IsHeader stands.by_header world.header) played.happens played.served played.events apart).0,
+      λ apart. (runs_without_clash header (e ∷ past)
+          (subst IsHeader stands.by_header world.header) played.happens played.served played.events apart).0,
     )

@@ -1,5 +1,5 @@
 -- Two lists, item by item.
-use Rattle.std.proofs.Common.{◌≡◌, ℕ, zero, suc, ◌+◌, ◌<◌, List, [], ◌∷◌, ◌++◌, length, refl, ap, subst, Some, arith}
+use Rattle.std.proofs.Common.{◌≡◌, ℕ, zero, suc, ◌+◌, List, [], ◌∷◌, ◌++◌, length, refl, ap, subst, Some, arith}
 use Rattle.std.specs.Prelude.{slice_get, slice_set}
 use Rattle.scfs_anchor.specs.Tree.{Each}
 use Rattle.scfs_world.specs.Shows.{Together}
@@ -45,7 +45,8 @@ one_behind R first (z ∷ xs) [] x y t h = absurd t
 one_behind R first (z ∷ xs) (w ∷ ys) x y t h = (t.0, one_behind R (first + 1) xs ys x y t.1 h)
 
 -- a relation that does not rest on the place
-pub from_any : {A B : Type 0} (R : A → B → Type 0) (first next : ℕ) (xs : List A) (ys : List B) → Together (λ n. R) first xs ys → Together (λ n. R) next xs ys
+pub from_any : {A B : Type 0} (R : A → B → Type 0) (first next : ℕ) (xs : List A) (ys : List B) → Together (λ n. R) first xs ys
+    → Together (λ n. R) next xs ys
 from_any R first next [] [] t = tt
 from_any R first next [] (y ∷ ys) t = absurd t
 from_any R first next (x ∷ xs) [] t = absurd t

@@ -1,56 +1,40 @@
 -- What a history leaves is whole.
-use Rattle.std.proofs.Common.{◌≡◌, ℕ, suc, List, [], ◌∷◌, Bool, true, false, cond, refl, find, Some, slice_get, arith}
+use Rattle.std.proofs.Common.{◌≡◌, ℕ, suc, List, [], ◌∷◌, Bool, true, false, cond, refl, find, Some, slice_get, arith, ap, ◌∙◌}
 use Rattle.std.proofs.lemmas.Bool.Decides.{nat_tests}
 use Rattle.scfs_base.specs.declared.naming.RequestNo.{RequestNo}
 use Rattle.scfs_anchor.specs.Tree.{Each}
-use Rattle.scfs_anchor.specs.Holding.{IsFresh}
-use Rattle.scfs_model.specs.Names.{same_request}
-use Rattle.scfs_model.specs.Layers.{Row}
-use Rattle.scfs_model.specs.Tree.{Node}
-use Rattle.scfs_model.specs.NameSteps.{Make, Look}
-use Rattle.scfs_model.specs.Steps.{Step, On_names, On_locks, On_sessions}
+use Rattle.scfs_model.specs.Names.{request_no, same_request}
+use Rattle.scfs_model.specs.Layers.{Row, rows}
+use Rattle.scfs_model.specs.Steps.{Step}
 use Rattle.scfs_model.specs.Agents.{Request}
 use Rattle.scfs_model.specs.States.{Seat}
 use Rattle.scfs_model.specs.Runs.{actual}
 use Rattle.scfs_model.specs.UnitFormat.{under}
-use Rattle.scfs_laws.proofs.HeldSteps.{each_weaker}
+use Rattle.scfs_laws.proofs.Lists.{each-map}
+use Rattle.scfs_laws.proofs.NewestOpens.{state_ok, rows_keep}
 use Rattle.scfs_agent.specs.Telling.{pending_step, is_numbered, outcome_step, IsIts}
 use Rattle.scfs_world.specs.Happening.{StandingAreShown}
-use Rattle.scfs_world.specs.Whole.{IsWholeSeat, StatesAreWhole}
-use Rattle.scfs_world.proofs.WholeSeats.{IsNotMade, Agrees, SeatKept}
+use Rattle.scfs_world.specs.Whole.{StatesAreWhole}
+use Rattle.scfs_world.proofs.WholeSeats.{Agrees, SeatKept}
 use Rattle.scfs_world.proofs.WholeStates.{kept_after}
 
-same_number : (r q : RequestNo) → same_request r q ≡ true → r.number ≡ q.number
-same_number r q same = grind (arith, nat_tests)
+same_number : (r q : RequestNo) → same_request r q ≡ true → r ≡ q
+same_number r q same =
+    let agents : r.agent ≡ q.agent = grind (arith, nat_tests) in
+    let incarnations : r.incarnation ≡ q.incarnation = grind (arith, nat_tests) in
+    let numbers : r.number ≡ q.number = grind (arith, nat_tests) in
+    ap (λ a. request_no a r.incarnation r.number) agents ∙ ap (λ i. request_no q.agent i r.number) incarnations
+    ∙ ap (request_no q.agent q.incarnation) numbers
 
-its : (pending : List (Request Row)) (number : RequestNo) (step : Step Row) → Each (Agrees number.number step) pending
+its : (pending : List (Request Row)) (number : RequestNo) (step : Step Row) → Each (Agrees number step) pending
     → IsIts (pending_step pending number) step
 its [] number step each = tt
 its (x ∷ xs) number step each = by (same_request x.number number) (λ same. each.0 (same_number x.number number same)) (its xs number step each.1)
   where
-    by : (b : Bool) → (b ≡ true → x.step ≡ step) → IsIts (find (is_numbered number) xs) step → IsIts (cond b (Some x) (find (is_numbered number) xs)) step
+    by : (b : Bool) → (b ≡ true → x.step ≡ step) → IsIts (find (is_numbered number) xs) step
+        → IsIts (cond b (Some x) (find (is_numbered number) xs)) step
     by true here later = here refl
     by false here later = later
-
-fresh : (nodes : List Node) (asked : List (Request Row)) → Each (λ (n : Node). Each (λ (x : Request Row). IsNotMade n.id.0 x.step) asked) nodes
-    → Each (λ (x : Request Row). IsFresh nodes x.step) asked
-fresh nodes [] each = tt
-fresh nodes (x ∷ xs) each = (
-  by x.step (each_weaker _ (λ (n : Node). IsNotMade n.id.0 x.step) nodes (λ n k. k.0) each),
-  fresh nodes xs (each_weaker _ (λ (n : Node). Each (λ (x : Request Row). IsNotMade n.id.0 x.step) xs) nodes (λ n k. k.1) each),
-)
-  where
-    by : (step : Step Row) → Each (λ (n : Node). IsNotMade n.id.0 step) nodes → IsFresh nodes step
-    by (On_names (Make names id)) each = each
-    by (On_names (Look names)) each = tt
-    by (On_locks y) each = tt
-    by (On_sessions y) each = tt
-
-whole_seat : (events : ℕ) (nodes : List Node) (a : ℕ) (seat : Seat Row) → SeatKept events nodes a seat → IsWholeSeat nodes seat
-whole_seat events nodes a seat h = record {
-  fresh = fresh nodes seat.asked (each_weaker _ _ nodes (λ n k. k.apart) h.free);
-  own = each_weaker _ _ seat.replied (λ y k. its seat.agent.pending y.number (outcome_step y.outcome) k.1) h.replied;
-}
 
 each_place : (P : Seat Row → Type 0) (seats : List (Seat Row)) → ((b : ℕ) (m : Seat Row) → slice_get seats b ≡ Some m → P m) → Each P seats
 each_place P [] all = tt
@@ -58,7 +42,12 @@ each_place P (x ∷ xs) all = (all 0 x refl, each_place P xs (λ b m there. all 
 
 pub states_are_whole : StatesAreWhole
 states_are_whole header past small happens =
-    each_place _ _ (λ b m there. whole_seat _ _ b m (kept_after (under header) past small happens b m there))
+    each_place _ (actual (under header) past).seats (λ b m there.
+    let h : SeatKept b m = kept_after (under header) past b m there in
+    record {
+      fresh = ((state_ok (under header) rows rows_keep past small happens).seats b m there).new;
+      own = each-map _ _ (λ y k. its m.agent.pending y.number (outcome_step y.outcome) k.1) m.replied h.replied;
+    })
 
 pub standing_worlds_are_shown : StandingAreShown
 standing_worlds_are_shown w header past stands small happens = (actual (under header) past, stands.shows, states_are_whole header past small happens)

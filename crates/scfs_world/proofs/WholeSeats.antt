@@ -1,231 +1,170 @@
--- What is known of a seat, by what its agent drew, and that it stays known.
-use Rattle.std.proofs.Common.{◌≡◌, ℕ, suc, ◌+◌, ◌*◌, ◌^◌, ◌<◌, ◌≤◌, List, [], ◌∷◌, ◌++◌, refl, sym, arith, subst, le_trans}
+-- What is known of the steps that an agent has pending, by the numbers that it drew, and that it stays known.
+use Rattle.std.proofs.Common.{◌≡◌, ℕ, ◌+◌, ◌≤◌, List, [], ◌∷◌, ◌++◌, Bool, refl, sym, ap, arith, le_refl}
 use Rattle.scfs_base.specs.declared.naming.RequestNo.{RequestNo}
-use Rattle.scfs_model.specs.Lists.{moved_back}
+use Rattle.scfs_model.specs.Lists.{without_first}
+use Rattle.scfs_model.specs.Names.{request_no, same_request}
+use Rattle.scfs_model.specs.Format.{Setup}
+use Rattle.scfs_model.specs.Given.{Given}
 use Rattle.scfs_model.specs.Layers.{Row, rows}
-use Rattle.scfs_model.specs.Tree.{Node, Tree}
-use Rattle.scfs_model.specs.NameSteps.{Make, Look}
-use Rattle.scfs_model.specs.Steps.{Step, On_names, On_locks, On_sessions, Outcome, served}
-use Rattle.scfs_model.specs.Agents.{Request, Reaction}
+use Rattle.scfs_model.specs.Lives.{is_up}
+use Rattle.scfs_model.specs.Steps.{Step}
+use Rattle.scfs_model.specs.Agents.{Request, Agent, Input, Reaction}
+use Rattle.scfs_model.specs.Reactions.{reacted}
 use Rattle.scfs_model.specs.States.{Reply, Seat}
-use Rattle.scfs_laws.proofs.SoundLists.{Each, each_append, each_moved}
-use Rattle.scfs_laws.proofs.HeldSteps.{each_weaker}
-use Rattle.scfs_laws.proofs.HeldSeats.{busy, busy_asked, step_of}
-use Rattle.scfs_world.proofs.DrawnWalk.{drawn_of}
-use Rattle.scfs_world.proofs.DrawnSteps.{Rising, rising_all, MakesIn, makes_wider, base_of, Asks}
-use Rattle.scfs_world.proofs.ServedIds.{OfMade, ids_served}
+use Rattle.scfs_laws.proofs.HeldSeats.{step_of}
+use Rattle.scfs_laws.proofs.Moves.{Known, has_up, IsInput, Moves, reacts}
+use Rattle.scfs_laws.proofs.Lists.{Each, chosen, each-map, each-append}
 
--- an id is none of the next that agent a draws, after so many files
-abbrev pub NotAhead : (a files id : ℕ) → Type 0
-NotAhead a files id = a * 2 ^ 56 + files < id → id ≤ a * 2 ^ 56 + 2 ^ 32 → ⊥
+-- what an agent has pending, and which requests it drew: all of earlier incarnations, and so many of this one
+pub record Drawn : Type 0 where
+  pub pending : List (Request Row)
+  pub incarnation : ℕ
+  pub requests : ℕ
 
--- a step makes no file of this id
-abbrev pub IsNotMade : (id : ℕ) → Step Row → Type 0
-IsNotMade id (On_names (Make names made)) = ¬ (id ≡ made.0)
-IsNotMade id (On_names (Look names)) = Unit {0}
-IsNotMade id (On_locks x) = Unit {0}
-IsNotMade id (On_sessions x) = Unit {0}
+abbrev pub drawn_of : Agent Row → Drawn
+drawn_of g = record { pending = g.pending; incarnation = g.incarnation; requests = g.requests }
 
--- an id is none that agent a draws next, nor one that a step is to make
-pub record IsFree (a files : ℕ) (asked : List (Request Row)) (id : ℕ) : Type 0 where
-  pub ahead : NotAhead a files id
-  pub apart : Each (λ (x : Request Row). IsNotMade id x.step) asked
+-- a number was drawn
+abbrev pub Drew : Drawn → RequestNo → Type 0
+Drew d number = (number.incarnation ≤ d.incarnation) × (d.incarnation ≤ number.incarnation → number.number ≤ d.requests)
+
+abbrev pub AllDrew : Drawn → Type 0
+AllDrew d = Each (λ (p : Request Row). Drew d p.number) d.pending
 
 -- a pending step under a number is this
-abbrev pub Agrees : (number : ℕ) → Step Row → Request Row → Type 0
-Agrees number step p = p.number.number ≡ number → p.step ≡ step
+abbrev pub Agrees : RequestNo → Step Row → Request Row → Type 0
+Agrees number step p = p.number ≡ number → p.step ≡ step
 
-abbrev pub IsKnown : (requests : ℕ) → (pending : List (Request Row)) → RequestNo → Step Row → Type 0
-IsKnown requests pending number step = (number.number ≤ requests) × Each (Agrees number.number step) pending
+abbrev pub Stands : Drawn → RequestNo → Step Row → Type 0
+Stands d number step = Drew d number × Each (Agrees number step) d.pending
 
--- after so many events
-pub record SeatKept (events : ℕ) (nodes : List Node) (a : ℕ) (seat : Seat Row) : Type 0 where
-  pub files : seat.agent.files ≤ events
-  pub free : Each (λ (n : Node). IsFree a seat.agent.files seat.asked n.id.0) nodes
-  pub makes : Each (λ (x : Request Row). MakesIn (a * 2 ^ 56) (a * 2 ^ 56 + seat.agent.files) x.step) seat.asked
-  pub pending : Each (λ (p : Request Row). p.number.number ≤ seat.agent.requests) seat.agent.pending
-  pub asked : Each (λ (x : Request Row). IsKnown seat.agent.requests seat.agent.pending x.number x.step) seat.asked
-  pub replied : Each (λ (y : Reply Row). IsKnown seat.agent.requests seat.agent.pending y.number (step_of y.outcome)) seat.replied
+-- from one to the other what stood stands, and so do these steps
+pub record Keeps (d e : Drawn) (xs : List (Request Row)) : Type 0 where
+  pub drew : AllDrew e
+  pub on : (number : RequestNo) (step : Step Row) → Stands d number step → Stands e number step
+  pub new : Each (λ (x : Request Row). Stands e x.number x.step) xs
 
--- of numbers that rise each is above the first and has a step of its own
-pub record IsBetween (low high : ℕ) (xs : List (Request Row)) (x : Request Row) : Type 0 where
-  pub above : low < x.number.number
-  pub upto : x.number.number ≤ high
-  pub alone : Each (Agrees x.number.number x.step) xs
+abbrev pub Kept : Drawn → Drawn → List (Request Row) → Type 0
+Kept d e xs = AllDrew d → Keeps d e xs
 
-rising_each : (low high : ℕ) (xs : List (Request Row)) → Rising low xs high → Each (IsBetween low high xs) xs
-rising_each low high [] h = tt
-rising_each low high (x ∷ xs) h =
-    let rest : Each (IsBetween x.number.number high xs) xs = rising_each x.number.number high xs h.1 in (
-      record {
-        above = h.0;
-        upto = rising_all x.number.number high xs h.1;
-        alone = ((λ same. refl), each_weaker (IsBetween x.number.number high xs) (Agrees x.number.number x.step) xs (λ y k same. absurd (omega (arith, k.above, same))) rest);
-      },
-      each_weaker (IsBetween x.number.number high xs) (IsBetween low high (x ∷ xs)) xs (λ y k. record {
-        above = omega (arith, h.0, k.above);
-        upto = k.upto;
-        alone = ((λ same. absurd (omega (arith, k.above, same))), k.alone);
-      }) rest,
-    )
+each_without : {X : Type 0} (P : X → Type 0) (test : X → Bool) (xs : List X) → Each P xs → Each P (without_first test xs)
+each_without P test [] h = tt
+each_without P test (x ∷ xs) h = chosen (Each P) (test x) xs (x ∷ without_first test xs) h.1 (h.0, each_without P test xs h.1)
 
--- nothing waits that an agent waits for: no file is to be made
-none_made : (id : ℕ) (xs : List (Request Row)) → busy_asked xs ≡ 0 → Each (λ (x : Request Row). IsNotMade id x.step) xs
-none_made id [] none = tt
-none_made id (x ∷ xs) none = (by x.step (omega arith), none_made id xs (omega arith))
-  where
-    by : (step : Step Row) → busy step ≡ 0 → IsNotMade id step
-    by (On_names x) none = absurd (omega arith)
-    by (On_locks x) none = tt
-    by (On_sessions x) none = tt
+-- nothing more is pending
+fewer : (d e : Drawn) → ((r : RequestNo) → Drew d r → Drew e r)
+    → ((P : Request Row → Type 0) → Each P d.pending → Each P e.pending) → Kept d e []
+fewer d e more left drew = record {
+  drew = left (λ p. Drew e p.number) (each-map _ _ (λ p. more p.number) d.pending drew);
+  on = λ number step k. (more number k.0, left (Agrees number step) k.1);
+  new = tt;
+}
 
--- after one more event that leaves the seat
-pub seat_later : (events : ℕ) (nodes : List Node) (a : ℕ) (seat : Seat Row) → SeatKept events nodes a seat → SeatKept (suc events) nodes a seat
-seat_later events nodes a seat h =
-    record { files = omega (arith, h.files); free = h.free; makes = h.makes; pending = h.pending; asked = h.asked; replied = h.replied }
+stays : (d : Drawn) → Kept d d []
+stays d = fewer d d (λ r h. h) (λ P h. h)
 
--- its oldest step goes to the back
-pub seat_postponed : (events : ℕ) (nodes : List Node) (a : ℕ) (seat : Seat Row) → SeatKept events nodes a seat
-    → SeatKept (suc events) nodes a (record seat { asked = moved_back seat.asked })
-seat_postponed events nodes a seat h =
+draws : (d : Drawn) (n : ℕ) → Kept d (record d { requests = d.requests + n }) []
+draws d n = fewer d (record d { requests = d.requests + n }) (λ r h. (h.0, λ l. omega (arith, h.1 l))) (λ P h. h)
+
+-- the next number was not drawn
+unseen : (a : ℕ) (d : Drawn) (r : RequestNo) → Drew d r → ¬ (r ≡ request_no a d.incarnation (d.requests + 1))
+unseen a d r h same =
+    omega (arith, h.1 (omega (arith, ap (λ (n : RequestNo). n.incarnation) same)), ap (λ (n : RequestNo). n.number) same)
+
+asks : (a : ℕ) (d : Drawn) (step : Step Row) →
+    let x : Request Row = record { number = request_no a d.incarnation (d.requests + 1); step = step } in
+    Kept d (record d { requests = d.requests + 1; pending = d.pending ++ x ∷ [] }) (x ∷ [])
+asks a d step drew =
+    let x : Request Row = record { number = request_no a d.incarnation (d.requests + 1); step = step } in
+    let e : Drawn = record d { requests = d.requests + 1; pending = d.pending ++ x ∷ [] } in
+    let more : (r : RequestNo) → Drew d r → Drew e r = λ r h. (h.0, λ l. omega (arith, h.1 l)) in
+    let its : Drew e x.number = (le_refl _, λ l. le_refl _) in
     record {
-      files = omega (arith, h.files);
-      free = each_weaker _ _ nodes (λ n k. record { ahead = k.ahead; apart = each_moved _ seat.asked k.apart }) h.free;
-      makes = each_moved _ seat.asked h.makes;
-      pending = h.pending;
-      asked = each_moved _ seat.asked h.asked;
-      replied = h.replied;
+      drew = each-append _ d.pending (x ∷ []) (each-map _ _ (λ p. more p.number) d.pending drew) (its, tt);
+      on = λ number other k. (
+        more number k.0,
+        each-append (Agrees number other) d.pending (x ∷ []) k.1 ((λ same. absurd (unseen a d number k.0 (sym same))), tt),
+      );
+      new = (
+        (
+          its,
+          each-append (Agrees x.number step) d.pending (x ∷ [])
+              (each-map _ _ (λ p h same. absurd (unseen a d p.number h same)) d.pending drew) ((λ same. refl), tt),
+        ),
+        tt,
+      );
     }
 
-module _ (events : ℕ) (nodes : List Node) (a : ℕ) (seat : Seat Row) (r : Reaction Row) (h : SeatKept events nodes a seat) (first : seat.agent.incarnation ≡ 0)
-    (small : suc events ≤ 2 ^ 32) (once : busy_asked r.steps ≤ 1)
-    (asks : (P : Request Row → Type 0) → Asks a P (drawn_of seat.agent) (drawn_of r.agent) r.steps) where
-  abbrev It : Asks a (λ p. p.number.number ≤ r.agent.requests) (drawn_of seat.agent) (drawn_of r.agent) r.steps
-  It = asks (λ p. p.number.number ≤ r.agent.requests)
+follows : (d e h : Drawn) (xs ys : List (Request Row)) → Kept d e xs → Kept e h ys → Kept d h (xs ++ ys)
+follows d e h xs ys first second drew =
+    let k : Keeps d e xs = first drew in
+    let l : Keeps e h ys = second k.drew in
+    record {
+      drew = l.drew;
+      on = λ number step known. l.on number step (k.on number step known);
+      new = each-append _ xs ys (each-map _ _ (λ x. l.on x.number x.step) xs k.new) l.new;
+    }
 
-  drawn : Each (IsBetween seat.agent.requests r.agent.requests r.steps) r.steps
-  drawn = rising_each seat.agent.requests r.agent.requests r.steps (asks (λ p. Unit {0})).numbers
+-- of each step that waits at a seat, and of each that a reply there is of
+pub record SeatKept (a : ℕ) (seat : Seat Row) : Type 0 where
+  pub pending : AllDrew (drawn_of seat.agent)
+  pub asked : Each (λ (x : Request Row). Stands (drawn_of seat.agent) x.number x.step) seat.asked
+  pub replied : Each (λ (y : Reply Row). Stands (drawn_of seat.agent) y.number (step_of y.outcome)) seat.replied
 
-  more : seat.agent.requests ≤ r.agent.requests
-  more = rising_all seat.agent.requests r.agent.requests r.steps (asks (λ p. Unit {0})).numbers
+-- whatever comes to an agent
+abbrev pub anything : Known Row
+anything =
+    record {
+      call = λ call. Unit {0};
+      sight = λ request sight. Unit {0};
+      answer = λ c request answer. Unit {0};
+      turn = Unit {0};
+      crash = Unit {0};
+      start = Unit {0};
+    }
 
-  -- what was known of a step is known
-  known : (number : RequestNo) (step : Step Row) → IsKnown seat.agent.requests seat.agent.pending number step
-      → IsKnown r.agent.requests r.agent.pending number step
-  known number step k = (
-    le_trans k.0 more,
-    (asks (Agrees number.number step)).pending k.1
-        (each_weaker (IsBetween seat.agent.requests r.agent.requests r.steps) (Agrees number.number step) r.steps
-        (λ x b same. absurd (omega (arith, b.above, k.0, same))) drawn),
-  )
+module _ (s : Setup) (a : ℕ) (given : Given) where
+  abbrev Does : Agent Row → Reaction Row → Type 0
+  Does g r = Kept (drawn_of g) (drawn_of r.agent) r.steps
 
-  -- and of a step that is asked now
-  known_now : (x : Request Row) → IsBetween seat.agent.requests r.agent.requests r.steps x → IsKnown r.agent.requests r.agent.pending x.number x.step
-  known_now x b = (
-    b.upto,
-    (asks (Agrees x.number.number x.step)).pending
-        (each_weaker (λ p. p.number.number ≤ seat.agent.requests) (Agrees x.number.number x.step) seat.agent.pending
-        (λ p k same. absurd (omega (arith, b.above, k, same))) h.pending)
-        b.alone,
-  )
-
-  less : seat.agent.files ≤ r.agent.files
-  less = (asks (λ p. Unit {0})).files
-
-  few : r.agent.files ≤ suc events
-  few = omega (arith, (asks (λ p. Unit {0})).few, once, h.files)
-
-  makes : Each (λ (x : Request Row). MakesIn (a * 2 ^ 56 + seat.agent.files) (a * 2 ^ 56 + r.agent.files) x.step) r.steps
-  makes =
-      let base : base_of a seat.agent.incarnation ≡ a * 2 ^ 56 = omega (arith, first) in
-      each_weaker _ _ r.steps (λ x. makes_wider (base_of a seat.agent.incarnation + seat.agent.files) (base_of a seat.agent.incarnation + r.agent.files)
-      (a * 2 ^ 56 + seat.agent.files) (a * 2 ^ 56 + r.agent.files) (omega (arith, base)) (omega (arith, base)) x.step) (asks (λ p. Unit {0})).makes
-
-  not_made : (id : ℕ) → NotAhead a seat.agent.files id → (x : Step Row)
-      → MakesIn (a * 2 ^ 56 + seat.agent.files) (a * 2 ^ 56 + r.agent.files) x → IsNotMade id x
-  not_made id ahead (On_names (Make names made)) k = λ same. ahead (omega (arith, k.0, same)) (omega (arith, k.1, same, few, small))
-  not_made id ahead (On_names (Look names)) k = tt
-  not_made id ahead (On_locks y) k = tt
-  not_made id ahead (On_sessions y) k = tt
-
-  -- after a reaction of its agent
-  pub seat_reacted : SeatKept (suc events) nodes a (record seat { agent = r.agent; asked = seat.asked ++ r.steps })
-  seat_reacted = record {
-    files = few;
-    free = each_weaker (λ (n : Node). IsFree a seat.agent.files seat.asked n.id.0) _ nodes (λ n k. record {
-      ahead = λ over upto. k.ahead (omega (arith, over, less)) upto;
-      apart = each_append _ seat.asked r.steps k.apart (each_weaker _ _ r.steps (λ x. not_made n.id.0 k.ahead x.step) makes);
-    }) h.free;
-    makes = each_append _ seat.asked r.steps
-        (each_weaker _ _ seat.asked (λ x. makes_wider (a * 2 ^ 56) (a * 2 ^ 56 + seat.agent.files) (a * 2 ^ 56) (a * 2 ^ 56 + r.agent.files) (omega arith) (omega (arith, less)) x.step) h.makes)
-        (each_weaker _ _ r.steps (λ x. makes_wider (a * 2 ^ 56 + seat.agent.files) (a * 2 ^ 56 + r.agent.files) (a * 2 ^ 56) (a * 2 ^ 56 + r.agent.files) (omega arith) (omega arith) x.step) makes);
-    pending = It.pending (each_weaker _ _ seat.agent.pending (λ p k. le_trans k more) h.pending) (each_weaker _ _ r.steps (λ x b. b.upto) drawn);
-    asked = each_append _ seat.asked r.steps (each_weaker _ _ seat.asked (λ x. known x.number x.step) h.asked) (each_weaker _ _ r.steps known_now drawn);
-    replied = each_weaker _ _ seat.replied (λ y. known y.number (step_of y.outcome)) h.replied;
-  }
-
--- the oldest step of agent a is served
-module _ (events : ℕ) (tree : Tree Row) (now lease a files : ℕ) (oldest : Request Row) (small : files ≤ 2 ^ 32)
-    (made : MakesIn (a * 2 ^ 56) (a * 2 ^ 56 + files) oldest.step) where
-  abbrev After : List Node
-  After = (served rows tree now lease oldest.number oldest.step).tree.nodes
-
-  -- what it makes is free at its seat, once no other step there makes a file
-  made_free : (rest : List (Request Row)) → busy_asked (oldest ∷ rest) ≤ 1 → OfMade (IsFree a files rest) oldest.step
-  made_free rest once = by oldest.step made once
-    where
-      by : (x : Step Row) → MakesIn (a * 2 ^ 56) (a * 2 ^ 56 + files) x → busy x + busy_asked rest ≤ 1 → OfMade (IsFree a files rest) x
-      by (On_names (Make names id)) k once = record { ahead = λ over upto. omega (arith, k.1, over); apart = none_made id.0 rest (omega arith) }
-      by (On_names (Look names)) k once = tt
-      by (On_locks y) k once = tt
-      by (On_sessions y) k once = tt
-
-  pub seat_served : (seat : Seat Row) (rest : List (Request Row)) (o : Outcome Row) → seat.agent.files ≡ files → step_of o ≡ oldest.step
-      → busy_asked (oldest ∷ rest) ≤ 1 → SeatKept events tree.nodes a (record seat { asked = oldest ∷ rest })
-      → SeatKept (suc events) After a (record seat { asked = rest; replied = seat.replied ++ (record { number = oldest.number; outcome = o }) ∷ [] })
-  seat_served seat rest o same of once h =
-      let free : OfMade (IsFree a seat.agent.files rest) oldest.step = subst (λ n. OfMade (IsFree a n rest) oldest.step) (sym same) (made_free rest once) in
+  moves : Moves s rows a anything given Does
+  moves =
       record {
-        files = omega (arith, h.files);
-        free = ids_served (IsFree a seat.agent.files rest) tree now lease oldest.number oldest.step free
-            (each_weaker (λ (n : Node). IsFree a seat.agent.files (oldest ∷ rest) n.id.0) (λ (n : Node). IsFree a seat.agent.files rest n.id.0) tree.nodes
-            (λ n k. record { ahead = k.ahead; apart = k.apart.1 }) h.free);
-        makes = h.makes.1;
-        pending = h.pending;
-        asked = h.asked.1;
-        replied = each_append _ seat.replied ((record { number = oldest.number; outcome = o }) ∷ []) h.replied
-            (subst (IsKnown seat.agent.requests seat.agent.pending oldest.number) (sym of) h.asked.0, tt);
+        still = λ g. stays (drawn_of g);
+        follow = λ g first second. follows (drawn_of g) (drawn_of first.agent) (drawn_of second.agent) first.steps second.steps;
+        aside = λ g life leases tallies opens same. stays (drawn_of g);
+        told = λ g request. fewer (drawn_of g) _ (λ r h. h) (λ P. each_without P (λ (x : Request Row). same_request x.number request) g.pending);
+        waits = λ g w free. stays (drawn_of g);
+        says_plain = λ g x plain. stays (drawn_of g);
+        asks = λ g step common. asks a (drawn_of g) step;
+        makes = λ g path names k. asks a (drawn_of g) _;
+        writes = λ g h offset new y k ok. stays (drawn_of g);
+        truncates = λ g h size y ok. stays (drawn_of g);
+        ends = λ g h. stays (drawn_of g);
+        closes = λ g h y found. stays (drawn_of g);
+        sees_empty = λ g request h writes sight k is. stays (drawn_of g);
+        sees_version = λ g request h writes sight v k is. draws (drawn_of g) _;
+        turns_open = λ g o. stays (drawn_of g);
+        hears_open = λ g o c request answer k awaited. stays (drawn_of g);
+        gets = λ g o clouds. draws (drawn_of g) _;
+        shows = λ g o bytes. stays (drawn_of g);
+        turns_upload = λ g x u. stays (drawn_of g);
+        hears_upload = λ g x u c request answer k new. stays (drawn_of g);
+        puts = λ g x u clouds k within. draws (drawn_of g) _;
+        commits = λ g x u enough. asks a (drawn_of g) _;
+        drops = λ g x. stays (drawn_of g);
+        downs = λ g up k. fewer (drawn_of g) _ (λ r h. h) (λ P h. tt);
+        ups = λ g down k. fewer (drawn_of g) _ (λ r h. (omega (arith, h.0), λ l. absurd (omega (arith, l, h.0)))) (λ P h. h);
       }
 
-  -- and it is free at all other seats
-  elsewhere_free : (b : ℕ) (other : Seat Row) → ¬ (b ≡ a) → other.agent.files ≤ 2 ^ 32
-      → Each (λ (x : Request Row). MakesIn (b * 2 ^ 56) (b * 2 ^ 56 + other.agent.files) x.step) other.asked
-      → OfMade (IsFree b other.agent.files other.asked) oldest.step
-  elsewhere_free b other apart few makes = by oldest.step made
-    where
-      from : (id : ℕ) → a * 2 ^ 56 < id → id ≤ a * 2 ^ 56 + files → (y : Step Row)
-          → MakesIn (b * 2 ^ 56) (b * 2 ^ 56 + other.agent.files) y → IsNotMade id y
-      from id over upto (On_names (Make names made)) k = λ same. omega (arith, k.0, k.1)
-      from id over upto (On_names (Look names)) k = tt
-      from id over upto (On_locks y) k = tt
-      from id over upto (On_sessions y) k = tt
-
-      by : (x : Step Row) → MakesIn (a * 2 ^ 56) (a * 2 ^ 56 + files) x → OfMade (IsFree b other.agent.files other.asked) x
-      by (On_names (Make names id)) k = record {
-        ahead = λ over upto. omega (arith, k.0, k.1);
-        apart = each_weaker _ _ other.asked (λ y. from id.0 k.0 k.1 y.step) makes;
+  pub seat_reacted : (seat : Seat Row) (input : Input Row) → is_up seat.agent.life ≡ has_up input → IsInput anything input → SeatKept a seat →
+      let r : Reaction Row = reacted s rows a seat.agent given input in SeatKept a (record seat { agent = r.agent; asked = seat.asked ++ r.steps })
+  seat_reacted seat input up known h =
+      let r : Reaction Row = reacted s rows a seat.agent given input in
+      let k : Keeps (drawn_of seat.agent) (drawn_of r.agent) r.steps =
+      reacts s rows a anything given Does moves (λ g x. draws (drawn_of g) _) seat.agent input up known h.pending in
+      record {
+        pending = k.drew;
+        asked = each-append _ seat.asked r.steps (each-map _ _ (λ x. k.on x.number x.step) seat.asked h.asked) k.new;
+        replied = each-map _ _ (λ y. k.on y.number (step_of y.outcome)) seat.replied h.replied;
       }
-      by (On_names (Look names)) k = tt
-      by (On_locks y) k = tt
-      by (On_sessions y) k = tt
-
-  pub other_served : (b : ℕ) (other : Seat Row) → ¬ (b ≡ a) → suc events ≤ 2 ^ 32 → SeatKept events tree.nodes b other → SeatKept (suc events) After b other
-  other_served b other apart few h = record {
-    files = omega (arith, h.files);
-    free = ids_served (IsFree b other.agent.files other.asked) tree now lease oldest.number oldest.step
-        (elsewhere_free b other apart (omega (arith, h.files, few)) h.makes) h.free;
-    makes = h.makes;
-    pending = h.pending;
-    asked = h.asked;
-    replied = h.replied;
-  }

@@ -1,5 +1,5 @@
--- What is done at one seat, or at the clouds alone, is a step of the whole world.
-use Rattle.std.proofs.Common.{◌≡◌, ℕ, ◌+◌, ◌*◌, ◌<◌, ◌≤◌, List, [], ◌∷◌, length, get_or, refl, ap, sym, subst, ◌∙◌, arith, le_refl, Option, Some, slice_get, slice_set, IfSome, length-set}
+-- What is done at one seat, or at the clouds and the clock alone, is a step of the whole world.
+use Rattle.std.proofs.Common.{◌≡◌, ℕ, ◌+◌, ◌*◌, ◌<◌, ◌≤◌, List, [], length, get_or, refl, ap, sym, subst, ◌∙◌, arith, le_refl, Option, Some, slice_get, slice_set, IfSome, Result, Ok, Err, length-set}
 use Rattle.std.proofs.lemmas.List.Elements.{All-set, All-weaker}
 use Rattle.std.proofs.lemmas.Option.{slice_get-get_or, slice_get_within, get_or_from_slice_get}
 use Rattle.scfs_base.specs.Limits.{carried_limit}
@@ -14,294 +14,250 @@ use Rattle.scfs_anchor.proofs.HoldLemmas.{holds_on}
 use Rattle.scfs_model.specs.Lists.{if_some}
 use Rattle.scfs_model.specs.UnitFormat.{under}
 use Rattle.scfs_model.specs.Clouds.{all_asked, moved_by, message_of}
-use Rattle.scfs_model.specs.Events.{Call_comes, Turn_comes, Step_served, Step_postponed, Reply_told}
+use Rattle.scfs_model.specs.Events.{Call_comes, Turn_comes, Crash_comes, Start_comes, Step_served, Step_postponed, Reply_told}
 use Rattle.scfs_model.specs.History.{Message}
 use Rattle.scfs_model.specs.Layers.{Row, rows}
 use Rattle.scfs_model.specs.Runs.{Answers}
 use Rattle.scfs_model.specs.States.{Seat, State, Effect, effect, leaving, at_seat, at_agent, at_space}
-use Rattle.scfs_world.specs.Seating.{Around, At_seat, IsAt, Leaves, SeatSteps, SeatPasses, IsShownAt, IsReady, KeepsReady, IsAtSeat, event_at}
+use Rattle.scfs_world.specs.Seating.{Around, At_seat, IsAt, Leaves, SeatDoes, IsShownAt, IsReady, KeepsReady, IsAtSeat, event_at}
 use Rattle.scfs_world.specs.Shows.{Together, ShowsSeat, Shows}
 use Rattle.scfs_world.specs.State.{SeatState, WorldState, counted}
-use Rattle.scfs_world.specs.Stepping.{effect_on, net_after, DoesIt, Steps, StepsAlone, IsTooLarge, IsShown, IsSeat, IsWorld, Keeps}
+use Rattle.scfs_world.specs.Stepping.{effect_on, net_after, DoesIt, Does, DoesAlone, Steps, IsTooLarge, IsShown, IsSeat, IsWorld, Keeps}
 use Rattle.scfs_world.specs.Whole.{IsWhole, IsWholeSeat}
+use Rattle.scfs_world.specs.declared.fault.StepFault.{StepFault}
+use Rattle.scfs_world.specs.declared.fault.StepFault.TheVariants as faults
 use Rattle.scfs_world.proofs.TogetherLemmas.{IsThere, at_place, set_both, each_there}
 
 -- the seat that code reads
-pub read_seat : (seats : List SeatState) (i a : ℕ) (seat : SeatState) → i ≡ a → a < length seats → seat ≡ get_or seats i seat
-    → slice_get seats a ≡ Some seat
-read_seat seats i a seat same within is = slice_get-get_or seats a seat within ∙ ap Some (ap (λ k. get_or seats k seat) (sym same) ∙ sym is)
+read_seat : (seats : List SeatState) (i : ℕ) (seat : SeatState) → i < length seats → seat ≡ get_or seats i seat → slice_get seats i ≡ Some seat
+read_seat seats i seat within is = slice_get-get_or seats i seat within ∙ ap Some (sym is)
 
 -- what holds of it
-pub seat_there : (P : SeatState → Type 0) (was old : WorldState) (a i : ℕ) (seat : SeatState) → was ≡ old → i ≡ a → seat ≡ get_or was.seats i seat
+pub seat_there : (P : SeatState → Type 0) (was old : WorldState) → was ≡ old → (a i : ℕ) (seat : SeatState) → i ≡ a → seat ≡ get_or was.seats i seat
     → a < length old.seats → P seat → IfSome (slice_get old.seats a) P
-seat_there P was old a i seat same from value within h =
-    let there : slice_get old.seats a ≡ Some seat =
-    subst (λ (w : WorldState). slice_get w.seats a ≡ Some seat) same
-    (read_seat was.seats i a seat from (omega (arith, within, ap (λ (w : WorldState). length w.seats) same)) value) in
-    subst (λ o. IfSome o P) (sym there) h
+seat_there P was old same a i seat from is within h =
+    subst (λ (w : WorldState). IfSome (slice_get w.seats a) P) same
+    (subst (λ n. IfSome (slice_get was.seats n) P) from (subst (λ o. IfSome o P)
+    (sym (read_seat was.seats i seat (omega (arith, within, from, ap (λ (w : WorldState). length w.seats) same)) is)) h))
 
-module _ (old : WorldState) (net : NetState) (a : ℕ) (seat : SeatState) (there : slice_get old.seats a ≡ Some seat) where
-  -- around the seat, where the clouds are these
-  abbrev pub At : Around
-  At = record { seat = seat; space = old.space; net = net }
+-- a seat of a world that is given an event; the clouds may have had their part of it already
+pub record Reads (w : WorldState) (net : NetState) (a : ℕ) (seat : SeatState) : Type 0 where
+  pub value : seat ≡ get_or w.seats a seat
+  pub within : a < length w.seats
+  pub world : IsWorld w
+  pub shown : IsShown w
+  pub room : w.events < 1000000
+  pub clouds : length net.clouds ≡ length w.net.clouds
+  pub carried : net.carried ≤ carried_limit
 
-  module _ (state : State Row) (shows : Shows old state) (whole : IsWhole state) where
-    its : IsThere (ShowsSeat old.header) a a seat state.seats
-    its = at_place (ShowsSeat old.header) 0 a a old.seats state.seats seat (omega arith) there shows.seats
+module _ (w : WorldState) (net : NetState) (a : ℕ) (seat : SeatState) (h : Reads w net a seat) where
+  there : slice_get w.seats a ≡ Some seat
+  there = read_seat w.seats a seat h.within h.value
 
-    is_at : IsAt old.header a old.clock old.events At state its.other
+  abbrev At : Around
+  At = record { seat = seat; space = w.space; net = net }
+
+  module _ (state : State Row) (shows : Shows w state) (whole : IsWhole state) where
+    its : IsThere (ShowsSeat w.header) a a seat state.seats
+    its = at_place (ShowsSeat w.header) 0 a a w.seats state.seats seat (omega arith) there shows.seats
+
+    is_at : IsAt w.header a w.clock w.events At state its.other
     is_at = record {
       clock = shows.clock;
       there = its.there;
       seat = its.holds;
       space = shows.space;
       whole = each_there (IsWholeSeat state.tree.nodes) state.seats a its.other its.there whole;
+      few = h.room;
+      ends = omega (arith, h.world.clock, h.room, h.world.header.lease.1);
     }
 
-  pub shown_at : IsShown old → IsShownAt old.clock At
-  shown_at (state, shows, whole) = (old.header, a, old.events, state, (its state shows whole).other, is_at state shows whole)
+  pub shown_at : IsShownAt w.clock At
+  shown_at = (w.header, a, w.events, h.shown.0, (its h.shown.0 h.shown.1 h.shown.2).other, is_at h.shown.0 h.shown.1 h.shown.2)
 
-  pub header_at : IsShown old → seat.agent.header ≡ old.header
-  header_at (state, shows, whole) = (its state shows whole).holds.by_header
+  pub header_at : seat.agent.header ≡ w.header
+  header_at = (its h.shown.0 h.shown.1 h.shown.2).holds.by_header
 
-  pub ready_at : IsWorld old → IsShown old → length net.clouds ≡ length old.net.clouds → net.carried ≤ carried_limit → IsReady old.events At
-  ready_at world shown same carried = record {
-    seat = subst (IsSeat old.events) (get_or_from_slice_get old.seats a seat seat there) (world.each a seat (slice_get_within old.seats a seat there));
-    clouds = same ∙ world.clouds ∙ ap (λ (h : Header). 3 * h.f + 1) (sym (header_at shown));
-    carried = carried;
-  }
+  ready_at : (events : ℕ) → w.events ≤ events → IsReady events seat.agent seat.asked net
+  ready_at events few =
+      let is : IsSeat w.events seat =
+      subst (IsSeat w.events) (get_or_from_slice_get w.seats a seat seat there) (h.world.each a seat (slice_get_within w.seats a seat there)) in
+      record {
+        inputs = omega (arith, is.inputs, few);
+        steps = is.steps;
+        clouds = h.clouds ∙ h.world.clouds ∙ ap (λ (k : Header). 3 * k.f + 1) (sym header_at);
+        carried = h.carried;
+      }
+
+  pub code_ready : IsReady 999999 seat.agent seat.asked net
+  code_ready = ready_at 999999 (omega (arith, h.room))
+
+  -- the world with this seat, these tuples and these clouds
+  abbrev pub Set : SeatState → List Tuple → NetState → WorldState
+  Set end space after = record w { space = space; seats = slice_set w.seats a end; net = after }
 
   -- what is done there is this on the machine
-  module _ (allows : RankFacts → ℕ → Type 0) (event : Event) (does : At_seat) (room : old.events < 1000000) (moved : moved_by event old.net ≡ net)
+  module _ (allows : RankFacts → ℕ → Type 0) (event : Event) (does : At_seat) (moved : moved_by event w.net ≡ net)
       (same : (state : State Row) (m : Seat Row) (ranks : List ℕ) → slice_get state.seats a ≡ Some m
-      → effect_on old state event ranks ≡ does old.header a state ranks m) where
-    pub seat_steps : (new : WorldState) (end : SeatState) (space : List Tuple) (after : NetState) (shown : List Line)
-        → new ≡ record old { space = space; seats = slice_set old.seats a end; net = after }
-        → SeatSteps allows old.clock does At (record { seat = end; space = space; net = after }) shown → Steps allows old (counted new) event shown
-    seat_steps new end space after shown is steps state shows whole =
-        let t = its state shows whole in
-        let k = steps old.header a old.events state t.other room (is_at state shows whole) in
-        let x : Effect Row = does old.header a state k.0 t.other in
-        let equal : effect_on old state event k.0 ≡ x = same state t.other k.0 t.there in
-        let left : Leaves old.header a old.clock old.events (record { seat = end; space = space; net = after }) net shown state x = k.2 in (
-          k.0,
-          subst (λ (y : Effect Row). Answers allows y.ranked k.0) (sym equal) k.1,
-          subst (DoesIt old (counted new) event shown) (sym equal)
-              (subst (λ w. DoesIt old (counted w) event shown x) (sym is)
-              (record {
-                lines = left.lines;
-                shows = record {
-                  clock = shows.clock ∙ sym left.clock;
-                  space = left.space;
-                  seats = subst (Together (ShowsSeat old.header) 0 (slice_set old.seats a end)) (sym left.seats)
-                      (set_both (ShowsSeat old.header) 0 a a old.seats state.seats end left.m (omega arith) left.seat shows.seats);
-                };
-                clouds = left.sent ∙ ap (λ n. all_asked n x.sent) (sym moved);
-              })),
-        )
+      → effect_on w state event ranks ≡ does w.header a state ranks m) (end : SeatState) (space : List Tuple) (after : NetState) where
+    abbrev Then : Around
+    Then = record { seat = end; space = space; net = after }
 
-    pub seat_passes : SeatPasses allows old.clock does At → IsTooLarge allows old event
-    seat_passes passes state shows whole =
+    steps : (shown : List Line) → SeatDoes allows w.clock does At Then (Ok shown) → Steps allows w (counted (Set end space after)) event shown
+    steps shown did state shows whole =
         let t = its state shows whole in
-        let k = passes old.header a old.events state t.other room (is_at state shows whole) in
-        let equal = same state t.other k.0 t.there in (
-          k.0,
-          subst (λ (y : Effect Row). Answers allows y.ranked k.0) (sym equal) k.1,
-          subst (λ (y : Effect Row). carried_limit < (net_after old event y).carried) (sym equal)
-              (subst (λ n. carried_limit < (all_asked n (does old.header a state k.0 t.other).sent).carried) (sym moved) k.2),
-        )
+        let k = did.0 w.header a w.events state t.other (is_at state shows whole) in
+        let x : Effect Row = does w.header a state k.0 t.other in
+        let left : Leaves w.header a w.clock w.events Then net shown state x = k.2 in
+        let both = subst (λ (y : Effect Row). Answers allows y.ranked k.0 × DoesIt w (counted (Set end space after)) event shown y)
+        (sym (same state t.other k.0 t.there)) (
+          k.1,
+          record {
+            lines = left.lines;
+            shows = record {
+              clock = shows.clock ∙ sym left.clock;
+              space = left.space;
+              seats = subst (Together (ShowsSeat w.header) 0 (slice_set w.seats a end)) (sym left.seats)
+                  (set_both (ShowsSeat w.header) 0 a a w.seats state.seats end left.m (omega arith) left.seat shows.seats);
+            };
+            clouds = left.sent ∙ ap (λ n. all_asked n x.sent) (sym moved);
+          },
+        ) in
+        (k.0, both.0, both.1)
 
-  pub seat_keeps : (new : WorldState) (end : SeatState) (space : List Tuple) (after : NetState) → IsWorld old → IsShown old
-      → length net.clouds ≡ length old.net.clouds → net.carried ≤ carried_limit
-      → new ≡ record old { space = space; seats = slice_set old.seats a end; net = after }
-      → KeepsReady At (record { seat = end; space = space; net = after }) → Keeps old new
-  seat_keeps new end space after world shown same carried is keeps =
-      subst (Keeps old) (sym is)
-      (record {
-        header = refl;
-        events = refl;
-        world = record {
-          header = world.header;
-          clock = omega (arith, world.clock);
-          seats = length-set old.seats a end ∙ world.seats;
-          clouds = keeps.clouds ∙ same ∙ world.clouds;
-          carried = keeps.carried;
-          each = All-set (IsSeat (old.events + 1)) old.seats a end (keeps.ready old.events (ready_at world shown same carried)).seat
-              (All-weaker (IsSeat old.events) (IsSeat (old.events + 1)) (λ s h. record { inputs = omega (arith, h.inputs); steps = h.steps }) old.seats world.each);
-        };
-      })
+    passes : SeatDoes allows w.clock does At Then (Err faults.TooLarge) → IsTooLarge allows w event
+    passes did state shows whole =
+        let t = its state shows whole in
+        let k = did.0 w.header a w.events state t.other (is_at state shows whole) in
+        let both = subst (λ (y : Effect Row). Answers allows y.ranked k.0 × (carried_limit < (net_after w event y).carried))
+        (sym (same state t.other k.0 t.there))
+        (k.1, subst (λ n. carried_limit < (all_asked n (does w.header a state k.0 t.other).sent).carried) (sym moved) k.2) in
+        (k.0, both.0, both.1)
+
+    keeps : KeepsReady seat.agent seat.asked net end.agent end.asked after → Keeps w (Set end space after)
+    keeps kept =
+        let ready : IsReady (w.events + 1) end.agent end.asked after = kept.ready w.events (ready_at w.events (le_refl _)) in
+        record {
+          header = refl;
+          events = refl;
+          world = record {
+            header = h.world.header;
+            clock = omega (arith, h.world.clock);
+            seats = length-set w.seats a end ∙ h.world.seats;
+            clouds = kept.clouds ∙ h.clouds ∙ h.world.clouds;
+            carried = ready.carried;
+            each = All-set (IsSeat (w.events + 1)) w.seats a end (record { inputs = ready.inputs; steps = ready.steps })
+                (All-weaker (IsSeat w.events) (IsSeat (w.events + 1))
+                (λ s k. record { inputs = omega (arith, k.inputs); steps = k.steps }) w.seats h.world.each);
+          };
+        }
+
+    pub seat_does : (result : Result (List Line) StepFault) → SeatDoes allows w.clock does At Then result
+        → Does allows w (Set end space after) event result
+    seat_does (Ok shown) did = (steps shown did, keeps did.1)
+    seat_does (Err faults.TooLarge) did = passes did
+    seat_does (Err faults.Memory) did = tt
 
 -- an event at a seat is one of the machine there
 
-module _ (header : Header) (state : State Row) (a : ℕ) (m : Seat Row) (there : slice_get state.seats a ≡ Some m) (message : Option Message) (ranks : List ℕ) where
+module _ (header : Header) (state : State Row) (a : ℕ) (m : Seat Row) (there : slice_get state.seats a ≡ Some m) (message : Option Message)
+    (ranks : List ℕ) where
   seated : (b : ℕ) (on : (n : ℕ) → Seat Row → Effect Row) → b ≡ a → at_seat state b (on b) ≡ on a m
   seated b on is = ap (λ n. at_seat state n (on n)) is ∙ ap (λ o. if_some o (leaving state []) (on a)) there
 
-  pub effect_at : (event : Event) → IsAtSeat a event
+  effect_at : (event : Event) → IsAtSeat a event
       → effect (under header) rows state event message (record { now = state.clock; ranks = ranks }) ≡ event_at event header a state ranks m
-  effect_at (events.Call b call) is = seated b (λ n. at_agent (under header) rows state (record { now = state.clock; ranks = ranks }) n (Call_comes call)) is
+  effect_at (events.Call b call) is =
+      seated b (λ n. at_agent (under header) rows state (record { now = state.clock; ranks = ranks }) n (Call_comes call)) is
   effect_at (events.Turn b) is = seated b (λ n. at_agent (under header) rows state (record { now = state.clock; ranks = ranks }) n Turn_comes) is
+  effect_at (events.Crash b) is = seated b (λ n. at_agent (under header) rows state (record { now = state.clock; ranks = ranks }) n Crash_comes) is
+  effect_at (events.Start b) is = seated b (λ n. at_agent (under header) rows state (record { now = state.clock; ranks = ranks }) n Start_comes) is
   effect_at (events.Space b) is = seated b (λ n. at_space (under header) rows state (record { now = state.clock; ranks = ranks }) n Step_served) is
   effect_at (events.Later b) is = seated b (λ n. at_space (under header) rows state (record { now = state.clock; ranks = ranks }) n Step_postponed) is
   effect_at (events.Told b) is = seated b (λ n. at_space (under header) rows state (record { now = state.clock; ranks = ranks }) n Reply_told) is
   effect_at other is = absurd is
 
-pub stays_at : (event : Event) (a : ℕ) (net : NetState) → IsAtSeat a event → moved_by event net ≡ net
+stays_at : (event : Event) (a : ℕ) (net : NetState) → IsAtSeat a event → moved_by event net ≡ net
 stays_at (events.Call b call) a net is = refl
 stays_at (events.Turn b) a net is = refl
+stays_at (events.Crash b) a net is = refl
+stays_at (events.Start b) a net is = refl
 stays_at (events.Space b) a net is = refl
 stays_at (events.Later b) a net is = refl
 stays_at (events.Told b) a net is = refl
 stays_at other a net is = absurd is
 
--- an event at the clouds alone
-
-module _ (old new : WorldState) (event : Event) (after : NetState) (is : new ≡ record old { net = after }) where
-  pub alone_steps : (shown : List Line) → after ≡ moved_by event old.net
-      → ((state : State Row) → Shows old state → effect_on old state event [] ≡ leaving state shown) → StepsAlone old (counted new) event shown
-  alone_steps shown moved same state shows = (
-    ap (λ (y : Effect Row). y.ranked) (same state shows),
-    subst (DoesIt old (counted new) event shown) (sym (same state shows))
-        (subst (λ w. DoesIt old (counted w) event shown (leaving state shown)) (sym is)
-        (record {
-          lines = refl;
-          shows = record {
-            clock = shows.clock;
-            space = holds_on old.clock old.clock old.events (old.events + 1) old.space state.tree shows.space (le_refl _) (omega arith);
-            seats = shows.seats;
-          };
-          clouds = moved;
-        })),
-  )
-
-  pub alone_keeps : IsWorld old → length after.clouds ≡ length old.net.clouds → after.carried ≤ carried_limit → Keeps old new
-  alone_keeps world same carried =
-      subst (Keeps old) (sym is)
-      (record {
-        header = refl;
-        events = refl;
-        world = record {
-          header = world.header;
-          clock = omega (arith, world.clock);
-          seats = world.seats;
-          clouds = same ∙ world.clouds;
-          carried = carried;
-          each = All-weaker (IsSeat old.events) (IsSeat (old.events + 1)) (λ s h. record { inputs = omega (arith, h.inputs); steps = h.steps }) old.seats world.each;
-        };
-      })
-
-pub steps_alone : (allows : RankFacts → ℕ → Type 0) (old new : WorldState) (event : Event) (shown : List Line) → StepsAlone old new event shown
-    → Steps allows old new event shown
-steps_alone allows old new event shown alone state shows whole =
-    let k = alone state shows in ([], subst (λ xs. Answers allows xs []) (sym k.0) tt, k.1)
-
-pub too_large_at : (allows : RankFacts → ℕ → Type 0) (old : WorldState) (event other : Event) → event ≡ other → IsTooLarge allows old other
-    → IsTooLarge allows old event
-too_large_at allows old event other is large = subst (IsTooLarge allows old) (sym is) large
-
--- The same by what code has: the world as it was seen, and the place by which it reads a seat and writes it. The clouds may have had their
--- part of the event already.
-pub record Reads (was old : WorldState) (net : NetState) (a i : ℕ) (seat : SeatState) : Type 0 where
-  pub same : was ≡ old
-  pub from : i ≡ a
-  pub value : seat ≡ get_or was.seats i seat
-  pub world : IsWorld old
-  pub shown : IsShown old
-  pub room : old.events < 1000000
-  pub agent : a < length old.header.agents
-  pub clouds : length net.clouds ≡ length old.net.clouds
-  pub carried : net.carried ≤ carried_limit
-
--- where they did not
-pub reads : (was old : WorldState) (a i : ℕ) (seat : SeatState) → was ≡ old → i ≡ a → seat ≡ get_or was.seats i seat → IsWorld old → IsShown old
-    → old.events < 1000000 → a < length old.header.agents → Reads was old was.net a i seat
-reads was old a i seat same from value world shown room agent = record {
-  same = same;
-  from = from;
-  value = value;
-  world = world;
-  shown = shown;
-  room = room;
-  agent = agent;
-  clouds = ap (λ (w : WorldState). length w.net.clouds) same;
-  carried = subst (λ (w : WorldState). w.net.carried ≤ carried_limit) (sym same) world.carried;
-}
-
-module _ (was old : WorldState) (net : NetState) (a i : ℕ) (seat : SeatState) (h : Reads was old net a i seat) where
-  there : slice_get old.seats a ≡ Some seat
-  there =
-      subst (λ (w : WorldState). slice_get w.seats a ≡ Some seat) h.same
-      (read_seat was.seats i a seat h.from (omega (arith, h.agent, h.world.seats, ap (λ (w : WorldState). length w.seats) h.same)) h.value)
-
-  abbrev pub Was : Around
-  Was = record { seat = seat; space = was.space; net = net }
-
-  -- the world with this seat, these tuples and these clouds
-  abbrev pub Set : SeatState → List Tuple → NetState → WorldState
-  Set end space after = record was { space = space; seats = slice_set was.seats i end; net = after }
-
-  set_is : (end : SeatState) (space : List Tuple) (after : NetState)
-      → Set end space after ≡ record old { space = space; seats = slice_set old.seats a end; net = after }
-  set_is end space after =
-      ap (λ k. record was { space = space; seats = slice_set was.seats k end; net = after }) h.from
-      ∙ ap (λ (w : WorldState). record w { space = space; seats = slice_set w.seats a end; net = after }) h.same
-
-  pub code_shown : IsShownAt was.clock Was
-  code_shown =
-      subst (λ (w : WorldState). IsShownAt w.clock (record { seat = seat; space = w.space; net = net })) (sym h.same) (shown_at old net a seat there h.shown)
-
-  pub code_header : seat.agent.header ≡ old.header
-  code_header = header_at old net a seat there h.shown
-
-  pub code_ready : IsReady 999999 Was
-  code_ready =
-      let k : IsReady old.events (At old net a seat there) = ready_at old net a seat there h.world h.shown h.clouds h.carried in
+-- code has seen the world so, and reads and writes the seat at this place
+module _ (was old : WorldState) (same : was ≡ old) (a i : ℕ) (seat : SeatState) (from : i ≡ a) (value : seat ≡ get_or was.seats i seat)
+    (world : IsWorld old)
+    (shown : IsShown old) (room : old.events < 1000000) (agent : a < length old.header.agents) where
+  pub reads : Reads was was.net i seat
+  reads =
+      let w : IsWorld was = subst IsWorld (sym same) world in
       record {
-        seat = record { inputs = omega (arith, k.seat.inputs, h.room); steps = k.seat.steps };
-        clouds = k.clouds;
-        carried = h.carried;
+        value = value;
+        within = omega (arith, from, agent, world.seats, ap (λ (v : WorldState). length v.seats) same);
+        world = w;
+        shown = subst IsShown (sym same) shown;
+        room = omega (arith, room, ap (λ (v : WorldState). v.events) same);
+        clouds = refl;
+        carried = w.carried;
       }
 
-  module _ (allows : RankFacts → ℕ → Type 0) (event : Event) (does : At_seat) (moved : moved_by event old.net ≡ net)
-      (equal : (state : State Row) (m : Seat Row) (ranks : List ℕ) → slice_get state.seats a ≡ Some m
-      → effect_on old state event ranks ≡ does old.header a state ranks m) where
-    pub code_steps : (end : SeatState) (space : List Tuple) (after : NetState) (lines : List Line)
-        → SeatSteps allows was.clock does Was (record { seat = end; space = space; net = after }) lines
-        → Steps allows old (counted (Set end space after)) event lines
-    code_steps end space after lines steps =
-        seat_steps old net a seat there allows event does h.room moved equal (Set end space after) end space after lines (set_is end space after)
-        (subst (λ (w : WorldState). SeatSteps allows w.clock does (record { seat = seat; space = w.space; net = net })
-        (record { seat = end; space = space; net = after }) lines) h.same steps)
+  pub event_does : (allows : RankFacts → ℕ → Type 0) (event : Event) → IsAtSeat a event → (end : SeatState) (space : List Tuple) (after : NetState)
+      (result : Result (List Line) StepFault)
+      → SeatDoes allows was.clock (event_at event) (record { seat = seat; space = was.space; net = was.net })
+      (record { seat = end; space = space; net = after }) result
+      → Does allows old (record was { space = space; seats = slice_set was.seats i end; net = after }) event result
+  event_does allows event is end space after result did =
+      let at : IsAtSeat i event = subst (λ n. IsAtSeat n event) (sym from) is in
+      subst (λ w. Does allows w (record was { space = space; seats = slice_set was.seats i end; net = after }) event result) same
+      (seat_does was was.net i seat reads allows event (event_at event) (stays_at event i was.net at)
+      (λ state m ranks there. effect_at was.header state i m there (message_of was.net event) ranks event at) end space after result did)
 
-    pub code_passes : SeatPasses allows was.clock does Was → IsTooLarge allows old event
-    code_passes passes =
-        seat_passes old net a seat there allows event does h.room moved equal
-        (subst (λ (w : WorldState). SeatPasses allows w.clock does (record { seat = seat; space = w.space; net = net })) h.same passes)
+-- an event at the clouds or of the clock: agents and tree stay
 
-  pub code_keeps : (end : SeatState) (space : List Tuple) (after : NetState) → KeepsReady Was (record { seat = end; space = space; net = after })
-      → Keeps old (Set end space after)
-  code_keeps end space after keeps =
-      seat_keeps old net a seat there (Set end space after) end space after h.world h.shown h.clouds h.carried (set_is end space after)
-      (subst (λ (w : WorldState). KeepsReady (record { seat = seat; space = w.space; net = net }) (record { seat = end; space = space; net = after })) h.same keeps)
+module _ (w : WorldState) (event : Event) (now : ℕ) (after : NetState) where
+  abbrev pub Alone : WorldState
+  Alone = record w { clock = now; net = after }
 
--- an event at the seat
+  pub alone_does : (shown : List Line) → IsWorld w → w.clock ≤ now → now ≤ 1000000000 * (w.events + 1) → after ≡ moved_by event w.net
+      → length after.clouds ≡ length w.net.clouds → after.carried ≤ carried_limit
+      → ((state : State Row) → Shows w state → effect_on w state event [] ≡ leaving (record state { clock = now }) shown)
+      → DoesAlone w Alone event (Ok shown)
+  alone_does shown world on soon moved as_many carried same = (
+    λ state shows. (
+      ap (λ (y : Effect Row). y.ranked) (same state shows),
+      subst (DoesIt w (counted Alone) event shown) (sym (same state shows))
+          (record {
+            lines = refl;
+            shows = record {
+              clock = refl;
+              space = holds_on w.clock now w.events (w.events + 1) w.space state.tree shows.space on (omega arith);
+              seats = shows.seats;
+            };
+            clouds = moved;
+          }),
+    ),
+    record {
+      header = refl;
+      events = refl;
+      world = record {
+        header = world.header;
+        clock = soon;
+        seats = world.seats;
+        clouds = as_many ∙ world.clouds;
+        carried = carried;
+        each = All-weaker (IsSeat w.events) (IsSeat (w.events + 1))
+            (λ s h. record { inputs = omega (arith, h.inputs); steps = h.steps }) w.seats world.each;
+      };
+    },
+  )
 
-module _ (was old : WorldState) (a i : ℕ) (seat : SeatState) (h : Reads was old was.net a i seat) (allows : RankFacts → ℕ → Type 0) (event : Event)
-    (is : IsAtSeat a event) where
-  abbrev Here : Around
-  Here = record { seat = seat; space = was.space; net = was.net }
-
-  untouched : moved_by event old.net ≡ was.net
-  untouched = stays_at event a old.net is ∙ sym (ap (λ (w : WorldState). w.net) h.same)
-
-  equal : (state : State Row) (m : Seat Row) (ranks : List ℕ) → slice_get state.seats a ≡ Some m
-      → effect_on old state event ranks ≡ event_at event old.header a state ranks m
-  equal state m ranks there = effect_at old.header state a m there (message_of old.net event) ranks event is
-
-  pub event_steps : (end : SeatState) (space : List Tuple) (after : NetState) (lines : List Line)
-      → SeatSteps allows was.clock (event_at event) Here (record { seat = end; space = space; net = after }) lines
-      → Steps allows old (counted (record was { space = space; seats = slice_set was.seats i end; net = after })) event lines
-  event_steps = code_steps was old was.net a i seat h allows event (event_at event) untouched equal
-
-  pub event_passes : SeatPasses allows was.clock (event_at event) Here → IsTooLarge allows old event
-  event_passes = code_passes was old was.net a i seat h allows event (event_at event) untouched equal
+pub does_alone : (allows : RankFacts → ℕ → Type 0) (old new : WorldState) (event : Event) (result : Result (List Line) StepFault)
+    → DoesAlone old new event result → Does allows old new event result
+does_alone allows old new event (Ok shown) did =
+    (λ state shows whole. let k = did.0 state shows in ([], subst (λ xs. Answers allows xs []) (sym k.0) tt, k.1), did.1)
+does_alone allows old new event (Err faults.TooLarge) did =
+    λ state shows whole. let k = did state in ([], subst (λ xs. Answers allows xs []) (sym k.0) tt, k.1)
+does_alone allows old new event (Err faults.Memory) did = tt

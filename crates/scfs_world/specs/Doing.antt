@@ -1,7 +1,10 @@
-use Rattle.std.specs.Prelude.{◌≡◌, ◌+◌, ◌<◌, ◌≤◌, ℕ, List, [], ◌∷◌, ◌++◌, fold, All}
+use Rattle.std.specs.Prelude.{◌≡◌, ◌+◌, ◌<◌, ◌≤◌, ℕ, Bool, true, false, not, List, [], ◌∷◌, ◌++◌, fold, All, Result, Ok, Err}
 use Rattle.std.specs.List.{flat_map}
 use Rattle.scfs_base.specs.Limits.{carried_limit}
+use Rattle.scfs_base.specs.declared.naming.RequestNo.{RequestNo}
 use Rattle.scfs_policy.specs.declared.rank.RankFacts.{RankFacts}
+use Rattle.scfs_schedule.specs.declared.types.Event.{Event}
+use Rattle.scfs_schedule.specs.declared.types.Event.TheVariants as events
 use Rattle.scfs_schedule.specs.declared.types.Header.{Header}
 use Rattle.scfs_schedule.specs.declared.types.Line.{Line}
 use Rattle.scfs_schedule.specs.declared.types.Line.TheVariants as lines
@@ -9,7 +12,8 @@ use Rattle.scfs_tuples.specs.After.{reply_of, left_after}
 use Rattle.scfs_tuples.specs.declared.types.Tuple.{Tuple}
 use Rattle.scfs_net.specs.Queues.{NetState, net_asked}
 use Rattle.scfs_model.specs.Format.{Setup}
-use Rattle.scfs_model.specs.States.{request_line}
+use Rattle.scfs_model.specs.Lives.{Life, is_up}
+use Rattle.scfs_model.specs.States.{is_there, request_line}
 use Rattle.scfs_model.specs.UnitFormat.{under}
 use Rattle.scfs_agent.specs.Keeping.{FitsOutput}
 use Rattle.scfs_agent.specs.Reacting.{FitsInput, Reacts}
@@ -20,6 +24,8 @@ use Rattle.scfs_agent.specs.declared.types.Output.{Output}
 use Rattle.scfs_agent.specs.declared.types.Output.TheVariants as outputs
 use Rattle.scfs_world.specs.State.{SeatState}
 use Rattle.scfs_world.specs.Showing.{line_of}
+use Rattle.scfs_world.specs.declared.fault.StepFault.{StepFault}
+use Rattle.scfs_world.specs.declared.fault.StepFault.TheVariants as faults
 use Rattle.scfs_world.specs.declared.seat.StepAsked.{StepAsked}
 use Rattle.scfs_world.specs.declared.seat.StepReply.{StepReply}
 
@@ -60,14 +66,15 @@ AsksAmong clouds (outputs.Line line) = Unit {0}
 
 -- an agent was given an input: how it was and is, and what it put out
 pub record IsGiven (allows : RankFacts → ℕ → Type 0) (now : ℕ) (input : Input) (was is : AgentState) (given : List Output) : Type 0 where
-  pub reacts : Reacts allows now input was is given
+  pub reacts : Reacts allows now was.header was.no was.agent is.agent given input
   pub fits : All (FitsOutput was.header.f) given
   pub header : is.header ≡ was.header
   pub no : is.no ≡ was.no
   pub inputs : is.inputs ≡ was.inputs + 1
 
 -- and what it put out was done; the lines stand behind these
-pub record IsDone (allows : RankFacts → ℕ → Type 0) (now : ℕ) (input : Input) (before : List Line) (old new : SeatState) (net after : NetState) (shown : List Line) : Type 0 where
+pub record IsDone (allows : RankFacts → ℕ → Type 0) (now : ℕ) (input : Input) (before : List Line) (old new : SeatState) (net after : NetState)
+    (shown : List Line) : Type 0 where
   pub given : List Output
   pub it : IsGiven allows now input old.agent new.agent given
   pub asked : new.asked ≡ old.asked ++ steps_out given
@@ -83,21 +90,55 @@ pub record IsTooMuch (allows : RankFacts → ℕ → Type 0) (now : ℕ) (input 
   pub it : IsGiven allows now input old.agent is given
   pub more : carried_limit < (net_with net given).carried
 
--- the oldest reply that waits is that of what a step came to
+-- the numbers of the oldest reply that waits fit
 abbrev pub FitsOldest : AgentState → List StepReply → Type 0
 FitsOldest a [] = Unit {0}
-FitsOldest a (oldest ∷ rest) = FitsInput a (inputs.Space oldest.request oldest.reply)
+FitsOldest a (oldest ∷ rest) = FitsInput a.header a.agent (inputs.Space oldest.request oldest.reply)
+
+-- what an event brings to an agent
+abbrev pub input_of : Event → Input
+input_of (events.Call a call) = inputs.Call call
+input_of (events.Crash a) = inputs.Crash
+input_of (events.Start a) = inputs.Start
+input_of other = inputs.Turn
+
+-- whether an agent can have it
+abbrev pub can_come : Event → Life → Bool
+can_come (events.Start a) life = not (is_up life)
+can_come other life = is_up life
+
+-- nothing was done but that a line says so
+abbrev pub Says : (old new : SeatState) → (net after : NetState) → Line → Result (List Line) StepFault → Type 0
+Says old new net after line (Ok shown) = (new ≡ old) × (after ≡ net) × (shown ≡ line ∷ [])
+Says old new net after line (Err faults.TooLarge) = ⊥
+Says old new net after line (Err faults.Memory) = Unit {0}
+
+module _ (allows : RankFacts → ℕ → Type 0) (now : ℕ) (old new : SeatState) (net after : NetState) where
+  -- an input came to the agent, with its lines behind these
+  abbrev pub Comes : Input → (before : List Line) → Result (List Line) StepFault → Type 0
+  Comes input before (Ok shown) = IsDone allows now input before old new net after shown
+  Comes input before (Err faults.TooLarge) = IsTooMuch allows now input old net
+  Comes input before (Err faults.Memory) = Unit {0}
+
+  -- it came if the agent could have it; otherwise a line says so
+  abbrev pub ComesIf : Bool → Input → (before : List Line) → (other : Line) → Result (List Line) StepFault → Type 0
+  ComesIf true input before other result = Comes input before result
+  ComesIf false input before other result = Says old new net after other result
+
+  -- what an event brings
+  abbrev pub Brings : Event → Result (List Line) StepFault → Type 0
+  Brings event result = ComesIf (can_come event old.agent.agent.life) (input_of event) [] lines.Skip result
+
+  -- the reply to a request; it is gone where the agent is not there any more
+  abbrev pub ComesBack : RequestNo → Input → (before : List Line) → Result (List Line) StepFault → Type 0
+  ComesBack request input before result = ComesIf (is_there old.agent.agent request) input before (lines.Gone request) result
 
 -- the agent was told the oldest of these replies, or there is none
-abbrev pub TellsOldest : (allows : RankFacts → ℕ → Type 0) → (now : ℕ) → (old new : SeatState) → (net after : NetState) → List Line → List StepReply → Type 0
-TellsOldest allows now old new net after shown [] = (new ≡ old) × (after ≡ net) × (shown ≡ lines.Skip ∷ [])
-TellsOldest allows now old new net after shown (oldest ∷ rest) =
-    IsDone allows now (inputs.Space oldest.request oldest.reply) [] (record old { replied = rest }) new net after shown
-
-abbrev pub TellsTooMuch : (allows : RankFacts → ℕ → Type 0) → (now : ℕ) → SeatState → NetState → List StepReply → Type 0
-TellsTooMuch allows now old net [] = ⊥
-TellsTooMuch allows now old net (oldest ∷ rest) =
-    IsTooMuch allows now (inputs.Space oldest.request oldest.reply) (record old { replied = rest }) net
+abbrev pub TellsOldest : (allows : RankFacts → ℕ → Type 0) → (now : ℕ) → (old new : SeatState) → (net after : NetState) → List StepReply
+    → Result (List Line) StepFault → Type 0
+TellsOldest allows now old new net after [] result = Says old new net after lines.Skip result
+TellsOldest allows now old new net after (oldest ∷ rest) result =
+    ComesBack allows now (record old { replied = rest }) new net after oldest.request (inputs.Space oldest.request oldest.reply) [] result
 
 -- the space served the oldest of these steps, or there is none
 abbrev pub ServesOldest : (now : ℕ) → (old new : SeatState) → (space after : List Tuple) → List Line → List StepAsked → Type 0

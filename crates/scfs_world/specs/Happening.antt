@@ -1,4 +1,4 @@
-use Rattle.std.specs.Prelude.{◌≡◌, ◌≤◌, ◌^◌, ℕ, List, ◌∷◌, length}
+use Rattle.std.specs.Prelude.{◌≡◌, ◌<◌, ◌≤◌, ◌^◌, ℕ, List, ◌∷◌, length}
 use Rattle.scfs_base.specs.Limits.{carried_limit}
 use Rattle.scfs_policy.specs.declared.rank.RankFacts.{RankFacts}
 use Rattle.scfs_schedule.specs.declared.types.Event.{Event}
@@ -45,4 +45,4 @@ PlaysOn allows old new event given =
 -- a world that stands for what happened shows a whole state: it can be given an event
 abbrev pub StandingAreShown : Type 0
 StandingAreShown =
-    (w : WorldState) (header : Header) (past : History) → Stands w header past → length past ≤ 2 ^ 32 → Happens (under header) past → IsShown w
+    (w : WorldState) (header : Header) (past : History) → Stands w header past → length past < 2 ^ 24 → Happens (under header) past → IsShown w

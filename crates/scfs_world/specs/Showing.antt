@@ -35,11 +35,6 @@ number_put (Some (gives.Val (fields.Text text))) = 0
 number_put (Some (gives.Var v)) = 0
 number_put (Some gives.Now) = 0
 
--- how long a tuple lives; none has the length 0
-abbrev pub life_of : Option ℕ → ℕ
-life_of None = 0
-life_of (Some life) = life
-
 -- a step that puts nothing and takes all tuples of a pattern frees locks; another one that puts nothing looks
 abbrev pub looked_line : RequestNo → (taken : ℕ) → List Cond → Line
 looked_line request taken [] = lines.Looked request
@@ -52,10 +47,15 @@ looked_line request taken (conds.TakeAll p ∷ others) = lines.Unlocked request 
 abbrev pub file_shown : List Field → FileId
 file_shown bound = record { 0 = number_at bound (length bound - 2) }
 
--- a step that puts one tuple makes a node, or, where it also shows a file, a lock on it
-abbrev pub put_line : RequestNo → (now : ℕ) → List Field → Template → List Pattern → Line
-put_line request now bound t [] = lines.Changed request
-put_line request now bound t (p ∷ ps) = lines.Locked request (file_shown bound) (now + life_of t.life)
+-- a lock that is put lives so long: a new one on the file that is shown, or, where none is shown, one that was there before
+abbrev pub lock_line : RequestNo → (now life : ℕ) → List Field → List Pattern → Line
+lock_line request now life bound [] = lines.Renewed request (now + life)
+lock_line request now life bound (p ∷ ps) = lines.Locked request (file_shown bound) (now + life)
+
+-- a step that puts one tuple puts a node, or, where it ends at a moment, a lock
+abbrev pub put_line : RequestNo → (now : ℕ) → List Field → List Pattern → (life : Option ℕ) → Line
+put_line request now bound all None = lines.Changed request
+put_line request now bound all (Some life) = lock_line request now life bound all
 
 -- a step that puts a node and a version completes that version
 abbrev pub committed_line : RequestNo → Template → Line
@@ -65,7 +65,7 @@ committed_line request version =
 -- the line of a step that was done, by what it puts
 abbrev pub done_line : RequestNo → Step → (now : ℕ) → List Field → (taken : ℕ) → List Template → Line
 done_line request step now bound taken [] = looked_line request taken step.conds
-done_line request step now bound taken (t ∷ []) = put_line request now bound t step.all
+done_line request step now bound taken (t ∷ []) = put_line request now bound step.all t.life
 done_line request step now bound taken (t ∷ version ∷ others) = committed_line request version
 
 abbrev pub line_by : RequestNo → Step → (now : ℕ) → StepResult → Line

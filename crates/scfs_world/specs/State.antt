@@ -1,4 +1,4 @@
-use Rattle.std.specs.Prelude.{ℕ, List, [], ◌+◌}
+use Rattle.std.specs.Prelude.{ℕ, List, ◌+◌}
 use Rattle.scfs_schedule.specs.declared.types.Header.{Header}
 use Rattle.scfs_tuples.specs.declared.types.Tuple.{Tuple}
 use Rattle.scfs_net.specs.Queues.{NetState}

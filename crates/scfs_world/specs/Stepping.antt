@@ -1,4 +1,4 @@
-use Rattle.std.specs.Prelude.{◌≡◌, ◌≤◌, ◌<◌, ◌+◌, ◌*◌, ℕ, List, [], length, All}
+use Rattle.std.specs.Prelude.{◌≡◌, ◌≤◌, ◌<◌, ◌+◌, ◌*◌, ℕ, List, [], length, All, Result, Ok, Err}
 use Rattle.scfs_base.specs.Limits.{carried_limit}
 use Rattle.scfs_policy.specs.declared.rank.RankFacts.{RankFacts}
 use Rattle.scfs_schedule.specs.Grammar.{IsHeader}
@@ -14,6 +14,8 @@ use Rattle.scfs_model.specs.States.{State, Effect, effect}
 use Rattle.scfs_world.specs.Shows.{Shows}
 use Rattle.scfs_world.specs.State.{SeatState, WorldState, counted}
 use Rattle.scfs_world.specs.Whole.{IsWhole}
+use Rattle.scfs_world.specs.declared.fault.StepFault.{StepFault}
+use Rattle.scfs_world.specs.declared.fault.StepFault.TheVariants as faults
 use Rattle.scfs_world.specs.declared.seat.StepAsked.{StepAsked}
 
 -- The contract of a world's step: the new world is the machine's step of the old one.
@@ -38,16 +40,6 @@ abbrev pub Steps : (allows : RankFacts → ℕ → Type 0) → WorldState → Wo
 Steps allows old new event given =
     (state : State Row) → Shows old state → IsWhole state →
     (ranks : List ℕ) × Answers allows (effect_on old state event ranks).ranked ranks × DoesIt old new event given (effect_on old state event ranks)
-
--- the same of an event in which the rank rule is asked nothing
-abbrev pub StepsAlone : WorldState → WorldState → Event → List Line → Type 0
-StepsAlone old new event given =
-    (state : State Row) → Shows old state →
-    let x = effect_on old state event [] in (x.ranked ≡ []) × DoesIt old new event given x
-
-abbrev pub IsTooLargeAlone : WorldState → Event → Type 0
-IsTooLargeAlone old event =
-    (state : State Row) → let x = effect_on old state event [] in (x.ranked ≡ []) × (carried_limit < (net_after old event x).carried)
 
 -- An event that would carry too many bytes: for some answers that the rank rule allows they would pass their limit.
 abbrev pub IsTooLarge : (allows : RankFacts → ℕ → Type 0) → WorldState → Event → Type 0
@@ -79,3 +71,18 @@ pub record Keeps (old new : WorldState) : Type 0 where
   pub header : new.header ≡ old.header
   pub events : new.events ≡ old.events
   pub world : IsWorld (counted new)
+
+-- what becomes of an event: it is done, and with it counted there is a world; or it would carry too many bytes
+abbrev pub Does : (allows : RankFacts → ℕ → Type 0) → (old new : WorldState) → Event → Result (List Line) StepFault → Type 0
+Does allows old new event (Ok given) = Steps allows old (counted new) event given × Keeps old new
+Does allows old new event (Err faults.TooLarge) = IsTooLarge allows old event
+Does allows old new event (Err faults.Memory) = Unit {0}
+
+-- the same of an event in which the rank rule is asked nothing
+abbrev pub DoesAlone : (old new : WorldState) → Event → Result (List Line) StepFault → Type 0
+DoesAlone old new event (Ok given) =
+    ((state : State Row) → Shows old state →
+    let x = effect_on old state event [] in (x.ranked ≡ []) × DoesIt old (counted new) event given x) × Keeps old new
+DoesAlone old new event (Err faults.TooLarge) =
+    (state : State Row) → let x = effect_on old state event [] in (x.ranked ≡ []) × (carried_limit < (net_after old event x).carried)
+DoesAlone old new event (Err faults.Memory) = Unit {0}

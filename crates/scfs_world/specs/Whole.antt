@@ -1,4 +1,4 @@
-use Rattle.std.specs.Prelude.{◌≡◌, ◌≢◌, ◌^◌, ◌≤◌, List, length}
+use Rattle.std.specs.Prelude.{◌^◌, ◌<◌, List, length}
 use Rattle.scfs_schedule.specs.declared.types.Header.{Header}
 use Rattle.scfs_anchor.specs.Tree.{Each}
 use Rattle.scfs_anchor.specs.Holding.{IsFresh}
@@ -25,6 +25,6 @@ pub record IsWholeSeat (nodes : List Node) (seat : Seat Row) : Type 0 where
 abbrev pub IsWhole : State Row → Type 0
 IsWhole state = Each (IsWholeSeat state.tree.nodes) state.seats
 
--- what a history leaves is whole; after 2^32 files an agent's ids would be those of another incarnation
+-- what a history leaves is whole; ids have 24 bits for the incarnation of the agent that drew them
 abbrev pub StatesAreWhole : Type 0
-StatesAreWhole = (header : Header) (past : History) → length past ≤ 2 ^ 32 → Happens (under header) past → IsWhole (actual (under header) past)
+StatesAreWhole = (header : Header) (past : History) → length past < 2 ^ 24 → Happens (under header) past → IsWhole (actual (under header) past)

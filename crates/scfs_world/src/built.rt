@@ -50,7 +50,6 @@ pub fn is_built(event: &Event) -> bool
 {
     match event {
         Event::Call(_, call) => is_built_call(call),
-        Event::Tick(_) | Event::Crash(_) | Event::Start(_) => false,
         _ => true,
     }
 }

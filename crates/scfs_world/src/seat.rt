@@ -1,4 +1,4 @@
-ghost use Rattle.std.specs.Prelude.{◌≡◌, ◌≢◌, ◌^◌, ◌+◌, ◌*◌, ◌<◌, ◌≤◌, ◌↔◌, ℕ, List, [], length, true, All, IfErr, IfOk, IsTrue, OnOk, is_some};
+ghost use Rattle.std.specs.Prelude.{◌≡◌, ◌≢◌, ◌^◌, ◌+◌, ◌*◌, ◌<◌, ◌≤◌, ◌↔◌, ℕ, List, [], length, true, All, IfOk, IsTrue, is_some};
 ghost use Rattle.scfs_base.specs.Limits.{carried_limit};
 ghost use Rattle.scfs_model.specs.Agents.{first_agent};
 ghost use Rattle.scfs_model.specs.UnitFormat.{under};
@@ -8,9 +8,8 @@ ghost use Rattle.scfs_tuples.specs.Steps.{IsStep};
 ghost use Rattle.scfs_tuples.specs.declared.types.Tuple.{Tuple};
 ghost use Rattle.scfs_agent.specs.Reacting.{FitsInput};
 ghost use Rattle.scfs_world.specs.Built.{is_built, is_built_call};
-ghost use Rattle.scfs_world.specs.Doing.{FitsOldest, IsDone, IsTooMuch, PostponesOldest, ServesOldest, TellsOldest, TellsTooMuch};
-ghost use Rattle.scfs_world.specs.Seating.{answer_at, event_at, IsAtSeat, IsReady, IsShownAt, KeepsReady, SeatPasses, SeatSteps};
-ghost use Rattle.scfs_world.specs.declared.fault.StepFault.TheVariants as StepFault;
+ghost use Rattle.scfs_world.specs.Doing.{Brings, Comes, ComesBack, FitsOldest, PostponesOldest, ServesOldest, TellsOldest, input_of};
+ghost use Rattle.scfs_world.specs.Seating.{answer_at, event_at, IsAtSeat, IsReady, IsShownAt, SeatDoes};
 
 use crate::StepFault;
 use crate::doing::do_outputs;
@@ -76,6 +75,19 @@ fn copy_call(alloc: Global, call: &Call) -> Result<Call, Memory>
     }
 }
 
+/// What an event brings to an agent.
+fn input_of(alloc: Global, event: &Event) -> Result<Input, Memory>
+    requires { is_built event.now ≡ true }
+    ensures { IfOk result (λ input. input ≡ input_of event.now) }
+{
+    match event {
+        Event::Call(_, call) => Ok(Input::Call(copy_call(alloc, call)?)),
+        Event::Crash(_) => Ok(Input::Crash),
+        Event::Start(_) => Ok(Input::Start),
+        _ => Ok(Input::Turn),
+    }
+}
+
 impl Seat {
     /// The seat of the agent of this number of the header, before it was given anything.
     pub(crate) fn new(alloc: Global, no: u8, header: &Header) -> Result<Seat, Memory>
@@ -108,25 +120,16 @@ impl Seat {
         requires event { (a : ℕ) × IsAtSeat a event.now }
         requires built { is_built event.now ≡ true }
         requires moment { now < 2 ^ 62 }
-        requires ready { IsReady 999999 (record { seat = self.old; space = space.old; net = net.old }) }
+        requires ready { IsReady 999999 self.old.agent self.old.asked net.old }
         requires shown { IsShownAt now (record { seat = self.old; space = space.old; net = net.old }) }
-        ensures steps { IfOk result (λ lines. SeatSteps (R.post rank.now) now (event_at event.now)
-            (record { seat = self.old; space = space.old; net = net.old }) (record { seat = self.new; space = space.new; net = net.new }) lines) }
-        ensures too_large { IfErr result (λ fault. fault ≡ StepFault.TooLarge → SeatPasses (R.post rank.now) now (event_at event.now)
-            (record { seat = self.old; space = space.old; net = net.old })) }
-        ensures kept { OnOk result (KeepsReady
-            (record { seat = self.old; space = space.old; net = net.old }) (record { seat = self.new; space = space.new; net = net.new })) }
+        ensures { SeatDoes (R.post rank.now) now (event_at event.now)
+            (record { seat = self.old; space = space.old; net = net.old }) (record { seat = self.new; space = space.new; net = net.new }) result }
     {
         match event {
-            Event::Call(_, call) => {
-                let input = Input::Call(copy_call(alloc, call)?);
-                self.input(alloc, now, input, Sequence::new(alloc), net, rank)
-            }
-            Event::Turn(_) => self.input(alloc, now, Input::Turn, Sequence::new(alloc), net, rank),
-            Event::Told(_) => self.tell(alloc, now, net, rank),
             Event::Space(_) => Ok(self.serve(alloc, now, space)?),
             Event::Later(_) => Ok(self.postpone(alloc)?),
-            _ => unreachable!(),
+            Event::Told(_) => self.tell(alloc, now, net, rank),
+            _ => self.come(alloc, now, event, net, rank),
         }
     }
 
@@ -142,18 +145,14 @@ impl Seat {
     ) -> Result<Sequence<Line>, StepFault>
         requires rank { IsRankRule (R.pre rank.now) }
         requires cloud { cloud < 3 * self.old.agent.header.f + 1 }
-        requires ready { IsReady 999999 (record { seat = self.old; space = []; net = net.old }) }
-        ensures steps { IfOk result (λ lines. (space : List Tuple) → SeatSteps (R.post rank.now) now (answer_at cloud given.request given.answer)
-            (record { seat = self.old; space = space; net = net.old }) (record { seat = self.new; space = space; net = net.new }) lines) }
-        ensures too_large { IfErr result (λ fault. fault ≡ StepFault.TooLarge → (space : List Tuple) → SeatPasses (R.post rank.now) now
-            (answer_at cloud given.request given.answer) (record { seat = self.old; space = space; net = net.old })) }
-        ensures kept { OnOk result (KeepsReady
-            (record { seat = self.old; space = []; net = net.old }) (record { seat = self.new; space = []; net = net.new })) }
+        requires ready { IsReady 999999 self.old.agent self.old.asked net.old }
+        ensures { (space : List Tuple) → SeatDoes (R.post rank.now) now (answer_at cloud given.request given.answer)
+            (record { seat = self.old; space = space; net = net.old }) (record { seat = self.new; space = space; net = net.new }) result }
     {
         let sum = sum_of(&given.answer);
         let lines = one_line(alloc, Line::Gave(cloud, given.request, sum))?;
         let input = Input::Cloud(cloud, given.request, given.answer);
-        self.input(alloc, now, input, lines, net, rank)
+        self.come_back(alloc, now, given.request, input, lines, net, rank)
     }
 
     /// The agent is given an input, and what it puts out is done; the lines come behind these.
@@ -168,16 +167,62 @@ impl Seat {
     ) -> Result<Sequence<Line>, StepFault>
         requires rank { IsRankRule (R.pre rank.now) }
         requires room { self.old.agent.inputs < 1000000 }
-        requires input { FitsInput self.old.agent input }
+        requires input { FitsInput self.old.agent.header self.old.agent.agent input }
         requires clouds { length net.old.clouds ≡ 3 * self.old.agent.header.f + 1 }
         requires carried { net.old.carried ≤ carried_limit }
-        ensures done { IfOk result (λ lines. IsDone (R.post rank.now) now input before self.old self.new net.old net.new lines) }
-        ensures too_large { IfErr result (λ fault. fault ≡ StepFault.TooLarge → IsTooMuch (R.post rank.now) now input self.old net.old) }
+        ensures { Comes (R.post rank.now) now self.old self.new net.old net.new input before result }
     {
         let outputs = self.agent.on(now, input, rank)?;
         let mut lines = before;
         do_outputs(alloc, outputs, &mut self.asked, net, &mut lines)?;
         Ok(lines)
+    }
+
+    /// The agent is given what an event brings, where it can have it.
+    fn come<R: Fn(RankFacts) -> u64>(
+        &mut self,
+        alloc: Global,
+        now: u64,
+        event: &Event,
+        net: &mut Net,
+        rank: &RankRule<R>,
+    ) -> Result<Sequence<Line>, StepFault>
+        requires rank { IsRankRule (R.pre rank.now) }
+        requires built { is_built event.now ≡ true }
+        requires room { self.old.agent.inputs < 1000000 }
+        requires clouds { length net.old.clouds ≡ 3 * self.old.agent.header.f + 1 }
+        requires carried { net.old.carried ≤ carried_limit }
+        ensures { Brings (R.post rank.now) now self.old self.new net.old net.new event.now result }
+    {
+        if self.agent.is_up() == matches!(event, Event::Start(_)) {
+            return Ok(one_line(alloc, Line::Skip)?);
+        }
+        let input = input_of(alloc, event)?;
+        self.input(alloc, now, input, Sequence::new(alloc), net, rank)
+    }
+
+    /// The agent is given the reply to a request where it is up in the incarnation that asked; otherwise the reply is gone.
+    fn come_back<R: Fn(RankFacts) -> u64>(
+        &mut self,
+        alloc: Global,
+        now: u64,
+        request: RequestNo,
+        input: Input,
+        before: Sequence<Line>,
+        net: &mut Net,
+        rank: &RankRule<R>,
+    ) -> Result<Sequence<Line>, StepFault>
+        requires rank { IsRankRule (R.pre rank.now) }
+        requires room { self.old.agent.inputs < 1000000 }
+        requires input { FitsInput self.old.agent.header self.old.agent.agent input }
+        requires clouds { length net.old.clouds ≡ 3 * self.old.agent.header.f + 1 }
+        requires carried { net.old.carried ≤ carried_limit }
+        ensures { ComesBack (R.post rank.now) now self.old self.new net.old net.new request input before result }
+    {
+        if !self.agent.is_up() || self.agent.incarnation() != request.incarnation {
+            return Ok(one_line(alloc, Line::Gone(request))?);
+        }
+        self.input(alloc, now, input, before, net, rank)
     }
 
     /// The agent is told the oldest reply.
@@ -193,14 +238,21 @@ impl Seat {
         requires told { FitsOldest self.old.agent self.old.replied }
         requires clouds { length net.old.clouds ≡ 3 * self.old.agent.header.f + 1 }
         requires carried { net.old.carried ≤ carried_limit }
-        ensures told { IfOk result (λ lines. TellsOldest (R.post rank.now) now self.old self.new net.old net.new lines self.old.replied) }
-        ensures too_large { IfErr result (λ fault. fault ≡ StepFault.TooLarge → TellsTooMuch (R.post rank.now) now self.old net.old self.old.replied) }
+        ensures { TellsOldest (R.post rank.now) now self.old self.new net.old net.new self.old.replied result }
     {
         let Some(oldest) = self.replied.pop_front() else {
             return Ok(one_line(alloc, Line::Skip)?);
         };
         let input = Input::Space(oldest.request, oldest.reply);
-        self.input(alloc, now, input, Sequence::new(alloc), net, rank)
+        self.come_back(
+            alloc,
+            now,
+            oldest.request,
+            input,
+            Sequence::new(alloc),
+            net,
+            rank,
+        )
     }
 
     /// The space serves the oldest step.

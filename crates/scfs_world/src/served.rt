@@ -1,6 +1,6 @@
 ghost use Rattle.std.specs.Prelude.{◌≡◌, ◌+◌, ◌^◌, ◌<◌, slice_get};
 ghost use Rattle.scfs_tuples.specs.Steps.{IsLife, IsStep, Lives};
-ghost use Rattle.scfs_world.specs.Showing.{committed_line, done_line, file_shown, line_of, looked_line, number_put, put_line};
+ghost use Rattle.scfs_world.specs.Showing.{committed_line, done_line, file_shown, line_of, lock_line, looked_line, number_put, put_line};
 
 use scfs_anchor::refusal;
 use scfs_base::{FileId, RequestNo};
@@ -37,16 +37,28 @@ fn looked_line(request: RequestNo, taken: u64, conds: &[Cond]) -> Line
     }
 }
 
+/// The line of a step that puts a lock, which lives so long.
+fn lock_line(request: RequestNo, now: u64, life: u64, bound: &[Field], step: &Step) -> Line
+    requires moment { now < 2 ^ 62 }
+    requires life { life < 2 ^ 62 }
+    ensures { result ≡ lock_line request now life bound.now step.now.all }
+{
+    if step.all.is_empty() {
+        return Line::Renewed(request, now + life);
+    }
+    Line::Locked(request, file_shown(bound), now + life)
+}
+
 /// The line of a step that puts one tuple.
 fn put_line(request: RequestNo, now: u64, bound: &[Field], step: &Step, put: &Template) -> Line
     requires moment { now < 2 ^ 62 }
     requires life { IsLife put.now.life }
-    ensures { result ≡ put_line request now bound.now put.now step.now.all }
+    ensures { result ≡ put_line request now bound.now step.now.all put.now.life }
 {
-    if step.all.is_empty() {
-        return Line::Changed(request);
+    match put.life {
+        None => Line::Changed(request),
+        Some(life) => lock_line(request, now, life, bound, step),
     }
-    Line::Locked(request, file_shown(bound), now + put.life.unwrap_or(0))
 }
 
 /// The line of a step that puts a node and this version.

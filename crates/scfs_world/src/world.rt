@@ -1,4 +1,4 @@
-ghost use Rattle.std.specs.Prelude.{◌≡◌, ◌≢◌, ◌+◌, ◌*◌, ◌<◌, ◌↔◌, [], length, true, slice_get, IfErr, IfOk, IfSome, IsTrue, OnOk, is_some};
+ghost use Rattle.std.specs.Prelude.{◌≡◌, ◌≢◌, ◌+◌, ◌*◌, ◌<◌, ◌≤◌, ◌↔◌, [], length, true, slice_get, IfErr, IfOk, IfSome, IsTrue, Ok, is_some};
 ghost use Rattle.std.specs.Option.{option_copied, option_map};
 ghost use Rattle.scfs_net.specs.Queues.{cloud_at};
 ghost use Rattle.scfs_policy.specs.Rank.{IsRankRule};
@@ -9,7 +9,7 @@ ghost use Rattle.scfs_world.specs.Clouds.{Answers, Moves};
 ghost use Rattle.scfs_world.specs.Happening.{PlaysOn, Stands};
 ghost use Rattle.scfs_world.specs.Seating.{IsAtSeat};
 ghost use Rattle.scfs_world.specs.State.{counted};
-ghost use Rattle.scfs_world.specs.Stepping.{IsShown, IsTooLarge, IsTooLargeAlone, IsWorld, Keeps, Steps, StepsAlone};
+ghost use Rattle.scfs_world.specs.Stepping.{Does, DoesAlone, IsShown, IsTooLarge, IsWorld, Steps};
 ghost use Rattle.scfs_world.specs.declared.fault.StepFault.TheVariants as StepFault;
 
 use crate::clouds::{answer, cloud_of, shift};
@@ -124,10 +124,8 @@ impl World {
         requires built { is_built event.now ≡ true }
         requires room { self.old.events < 1000000 }
         requires rank { IsRankRule (R.pre rank.now) }
-        ensures steps { IfOk result (λ lines. Steps (R.post rank.now) self.old (counted self.new) event.now lines) }
+        ensures does { Does (R.post rank.now) self.old self.new event.now result }
         ensures plays { IfOk result (λ lines. PlaysOn (R.post rank.now) self.old (counted self.new) event.now lines) }
-        ensures too_large { IfErr result (λ fault. fault ≡ StepFault.TooLarge → IsTooLarge (R.post rank.now) self.old event.now) }
-        ensures kept { OnOk result (Keeps self.old self.new) }
     {
         let lines = self.on(event, rank)?;
         brings_bytes(event);
@@ -146,20 +144,21 @@ impl World {
         requires built { is_built event.now ≡ true }
         requires room { self.old.events < 1000000 }
         requires rank { IsRankRule (R.pre rank.now) }
-        ensures steps { IfOk result (λ lines. Steps (R.post rank.now) self.old (counted self.new) event.now lines) }
-        ensures too_large { IfErr result (λ fault. fault ≡ StepFault.TooLarge → IsTooLarge (R.post rank.now) self.old event.now) }
-        ensures kept { OnOk result (Keeps self.old self.new) }
+        ensures { Does (R.post rank.now) self.old self.new event.now result }
     {
         match event {
             Event::Call(a, _)
             | Event::Turn(a)
             | Event::Space(a)
             | Event::Later(a)
-            | Event::Told(a) => self.at_seat(*a, event, rank),
+            | Event::Told(a)
+            | Event::Crash(a)
+            | Event::Start(a) => self.at_seat(*a, event, rank),
             Event::Give(c) => self.give(*c, rank),
             Event::Serve(_) | Event::Hide(_) | Event::Fail(_) | Event::Say(_, _) => {
                 self.answered(event)
             }
+            Event::Tick(ticks) => Ok(self.later(*ticks)),
             _ => self.moved(event),
         }
     }
@@ -178,9 +177,7 @@ impl World {
         requires built { is_built event.now ≡ true }
         requires room { self.old.events < 1000000 }
         requires rank { IsRankRule (R.pre rank.now) }
-        ensures steps { IfOk result (λ lines. Steps (R.post rank.now) self.old (counted self.new) event.now lines) }
-        ensures too_large { IfErr result (λ fault. fault ≡ StepFault.TooLarge → IsTooLarge (R.post rank.now) self.old event.now) }
-        ensures kept { OnOk result (Keeps self.old self.new) }
+        ensures { Does (R.post rank.now) self.old self.new event.now result }
     {
         let seat = &mut self.seats[usize::from(a)];
         seat.on(
@@ -204,9 +201,7 @@ impl World {
         requires room { self.old.events < 1000000 }
         requires cloud { c < 3 * self.old.header.f + 1 }
         requires rank { IsRankRule (R.pre rank.now) }
-        ensures steps { IfOk result (λ lines. Steps (R.post rank.now) self.old (counted self.new) (events.Give c) lines) }
-        ensures too_large { IfErr result (λ fault. fault ≡ StepFault.TooLarge → IsTooLarge (R.post rank.now) self.old (events.Give c)) }
-        ensures kept { OnOk result (Keeps self.old self.new) }
+        ensures { Does (R.post rank.now) self.old self.new (events.Give c) result }
     {
         let Some(given) = self.net.give(c) else {
             return Ok(one_line(self.alloc, Line::Skip)?);
@@ -222,9 +217,7 @@ impl World {
     fn answered(&mut self, event: &Event) -> Result<Sequence<Line>, StepFault>
         requires world { IsWorld self.old }
         requires event { Answers (length self.old.net.clouds) event.now }
-        ensures steps { IfOk result (λ lines. StepsAlone self.old (counted self.new) event.now lines) }
-        ensures too_large { IfErr result (λ fault. fault ≡ StepFault.TooLarge → IsTooLargeAlone self.old event.now) }
-        ensures kept { OnOk result (Keeps self.old self.new) }
+        ensures { DoesAlone self.old self.new event.now result }
     {
         let did = answer(self.alloc, &mut self.net, event)?;
         Ok(did_lines(self.alloc, cloud_of(event), did)?)
@@ -234,12 +227,21 @@ impl World {
     fn moved(&mut self, event: &Event) -> Result<Sequence<Line>, StepFault>
         requires world { IsWorld self.old }
         requires event { Moves (length self.old.net.clouds) event.now }
-        ensures steps { IfOk result (λ lines. StepsAlone self.old (counted self.new) event.now lines) }
-        ensures too_large { IfErr result (λ fault. fault ≡ StepFault.TooLarge → IsTooLargeAlone self.old event.now) }
-        ensures kept { OnOk result (Keeps self.old self.new) }
+        ensures { DoesAlone self.old self.new event.now result }
     {
         let moved = shift(&mut self.net, event)?;
         Ok(moved_lines(self.alloc, moved)?)
+    }
+
+    /// The clock goes on by so many ticks.
+    fn later(&mut self, ticks: u64) -> Sequence<Line>
+        requires world { IsWorld self.old }
+        requires room { self.old.events < 1000000 }
+        requires ticks { ticks ≤ 1000000000 }
+        ensures { DoesAlone self.old self.new (events.Tick ticks) (Ok result) }
+    {
+        self.clock += ticks;
+        Sequence::new(self.alloc)
     }
 
     /// The header of the run.

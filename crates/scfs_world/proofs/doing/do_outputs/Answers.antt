@@ -15,7 +15,8 @@ each-preserved c =
     let same : length c.each.net.clouds ≡ length c.do_output.new.net.clouds =
     sym (ap (λ (n : NetState). length n.clouds) c.in_ok-do_output.ensures.net ∙ length-net_by c.each.net output) in
     record {
-      among = subst (λ k. All (AsksAmong k) rest) same (All-rest (AsksAmong (length c.each.net.clouds)) output rest c.each.outputs is c.each.invariant.among);
+      among = subst (λ k. All (AsksAmong k) rest) same
+          (All-rest (AsksAmong (length c.each.net.clouds)) output rest c.each.outputs is c.each.invariant.among);
       carried = c.in_ok-do_output.ensures.carried;
       net = c.each.invariant.net ∙ ap (net_with c.each.net) is ∙ ap (λ n. net_with n rest) (sym c.in_ok-do_output.ensures.net);
       lines = λ header. c.each.invariant.lines header ∙ ap (λ os. c.each.lines ++ lines_out (under header) os) is
@@ -31,9 +32,11 @@ returns-in_err-do_output-clause-too_large c =
     let rest = c.pop_front.new.self in
     let output = c.in-Some.output in
     let is : c.each.outputs ≡ output ∷ rest = c.in-Some.ensures in
-    let net : net_with c.args.net.now c.args.outputs ≡ net_with (net_by c.each.net output) rest = c.each.invariant.net ∙ ap (net_with c.each.net) is in
+    let net : net_with c.args.net.now c.args.outputs ≡ net_with (net_by c.each.net output) rest =
+    c.each.invariant.net ∙ ap (net_with c.each.net) is in
     let p = err_from_is_err_and c.from_residual.result c.from_residual.ensures.1 in
-    rw (p.1, p.2) (λ fault. omega (arith, c.in_err-do_output.ensures.too_large fault, carried_with (net_by c.each.net output) rest, ap (λ (n : NetState). n.carried) net))
+    rw (p.1, p.2) (λ fault.
+    omega (arith, c.in_err-do_output.ensures.too_large fault, carried_with (net_by c.each.net output) rest, ap (λ (n : NetState). n.carried) net))
 
 pub returns-clause-lines : goal.returns-clause-lines
 returns-clause-lines c = λ header.

@@ -11,9 +11,11 @@ use Rattle.scfs_agent.proofs.agent.Agent.all_ranks.Goals as goal
 pub returns-clause-answers : goal.returns-clause-answers
 returns-clause-answers g c =
     let none : c.each.rest.now ≡ [] = grind (arith, common_steps) in
-    let same : c.as_slice-rest.result.now ≡ c.args.self.now.agent.tallies = c.as_slice-rest.ensures ∙ ap (λ (a : AgentState). a.agent.tallies) c.self.view_is in
+    let same : c.as_slice-rest.result.now ≡ c.args.self.now.agent.tallies =
+    c.as_slice-rest.ensures ∙ ap (λ (a : AgentState). a.agent.tallies) c.self.view_is in
     subst (λ (facts : List RankFacts). Answers (λ x rank. g.R.Fn.post c.args.rank.now (x, tt) rank) facts c.each.ranks) same
-    (answers_end (λ x rank. g.R.Fn.post c.args.rank.now (x, tt) rank) c.as_slice-rest.result.now c.each.rest.now c.each.ranks none c.each.invariant.answers)
+    (answers_end (λ x rank. g.R.Fn.post c.args.rank.now (x, tt) rank) c.as_slice-rest.result.now c.each.rest.now c.each.ranks none
+    c.each.invariant.answers)
 
 pub returns-clause-count : goal.returns-clause-count
 returns-clause-count g c =

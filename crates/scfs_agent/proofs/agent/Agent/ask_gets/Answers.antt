@@ -7,7 +7,7 @@ use Rattle.scfs_agent.specs.Outputs.{get_body, sent_outputs, sent_to}
 use Rattle.scfs_agent.specs.declared.work.Asked.{Asked}
 use Rattle.scfs_agent.proofs.ReadingLemmas.{gets_asked}
 use Rattle.scfs_agent.proofs.KeptLemmas.{kept_work}
-use Rattle.scfs_agent.proofs.AskingLemmas.{fits, gets_give, gets_after}
+use Rattle.scfs_agent.proofs.AskingLemmas.{fits}
 use Rattle.scfs_agent.proofs.agent.Agent.ask_gets.Goals as goal
 
 pub invariant_of-self : goal.invariant_of-self
@@ -23,18 +23,11 @@ invariant_of-self c =
     inside.no inside.incarnation inside.requests joined c.in_ok-gets.ensures.numbers))
     (ap (λ (a : AgentState). calls_in a.agent.pending) c.self.view_is ∙ c.requires.free.calls)
 
-pub returns-clause-gives : goal.returns-clause-gives
-returns-clause-gives c =
-    gets_give c.args.self.now _ c.self.view_is c.args.clouds.now c.in_ok-gets.gets c.in_ok-gets.ensures.numbers c.args.fetch c.in_ok-given.given
-    c.requires.fetch.size (c.in_ok-given.ensures ∙ ap (λ (xs : List Asked). sent_outputs (sent_to (get_body c.self.inside.header.f c.args.fetch.row.upload c.args.fetch.row.length) (asked_of xs))) c.as_slice.ensures)
-
-pub returns-clause-after : goal.returns-clause-after
-returns-clause-after c =
-    gets_after c.args.self.now _ c.self.view_is c.args.clouds.now c.in_ok-gets.gets c.in_ok-gets.ensures.numbers c.requires.free.closed c.args.fetch c.append.new.all c.len.result
-    (c.in_ok-append.ensures ∙ ap (λ (xs : List Asked). c.args.fetch.gets ++ xs) c.as_slice-2.ensures) c.len.ensures
-
 pub returns-clause-asks : goal.returns-clause-asks
 returns-clause-asks c =
     let row = c.args.fetch.row in
-    fits c.args.self.now _ c.self.view_is c.args.clouds.now c.in_ok-gets.gets c.in_ok-gets.ensures.numbers (get_body c.self.inside.header.f row.upload row.length)
-    c.in_ok-given.given (c.in_ok-given.ensures ∙ ap (λ (xs : List Asked). sent_outputs (sent_to (get_body c.self.inside.header.f row.upload row.length) (asked_of xs))) c.as_slice.ensures) c.requires.clouds
+    fits c.args.self.now _ c.self.view_is c.args.clouds.now c.in_ok-gets.gets c.in_ok-gets.ensures.numbers
+    (get_body c.self.inside.header.f row.upload row.length)
+    c.in_ok-given.given (c.in_ok-given.ensures
+    ∙ ap (λ (xs : List Asked). sent_outputs (sent_to (get_body c.self.inside.header.f row.upload row.length) (asked_of xs))) c.as_slice.ensures)
+    c.requires.clouds

@@ -31,7 +31,8 @@ returns-clause-gives c =
     let f : c.self.inside.header.f ≡ old.header.f = ap (λ (a : AgentState). a.header.f) c.self.view_is in
     let no : ℕ → UploadNo = λ (k : ℕ). upload_no old.no old.agent.incarnation (k + 1) in
     gives_by c.ask_puts.result _ _
-    (begun_gives old _ c.self.view_is c.args.session c.args.left c.row_from-row.result c.in_ok-unit.unit c.new.result c.in_ok-new.field-0 c.as_slice.result.now
+    (begun_gives old _ c.self.view_is c.args.session c.args.left c.row_from-row.result c.in_ok-unit.unit c.new.result c.in_ok-new.field-0
+    c.as_slice.result.now
     (c.in_ok-unit.ensures ∙ ap (λ (k : ℕ). sealed (setup old) (no k) c.args.left.contents) uploads)
     (c.row_from-row.ensures.row ∙ ap (λ (k : ℕ). rows.closed (left_session c.args.left) (no k) c.in_ok-unit.unit) uploads)
     c.new.ensures
@@ -46,7 +47,8 @@ returns-clause-after c =
     let f : c.self.inside.header.f ≡ old.header.f = ap (λ (a : AgentState). a.header.f) c.self.view_is in
     let no : ℕ → UploadNo = λ (k : ℕ). upload_no old.no old.agent.incarnation (k + 1) in
     after_by c.ask_puts.result _ _ _
-    (begun_after old _ c.self.view_is c.args.session c.args.left c.row_from-row.result c.in_ok-unit.unit c.new.result c.in_ok-new.field-0 c.as_slice.result.now
+    (begun_after old _ c.self.view_is c.args.session c.args.left c.row_from-row.result c.in_ok-unit.unit c.new.result c.in_ok-new.field-0
+    c.as_slice.result.now
     (c.in_ok-unit.ensures ∙ ap (λ (k : ℕ). sealed (setup old) (no k) c.args.left.contents) uploads)
     (c.row_from-row.ensures.row ∙ ap (λ (k : ℕ). rows.closed (left_session c.args.left) (no k) c.in_ok-unit.unit) uploads)
     c.new.ensures

@@ -14,15 +14,18 @@ pub reads-requires-clause-fetch : goal.reads-requires-clause-fetch
 reads-requires-clause-fetch c =
     let mine : is_answer_to (asked_of c.args.fetch.gets) c.args.cloud c.args.request ≡ true = grind (arith, common_steps) in
     let none : is_among c.args.cloud c.args.fetch.tracker.pieces ≡ false = grind (arith, common_steps) in
-    has_read_so c.args.self.now.header.f c.args.fetch c.requires.fetch c.args.cloud c.args.request c.args.answer.now mine none c.tally.new.self.header.f
-    c.answer.new.self c.in_ok-step.step (ap (λ (a : AgentState). a.header.f) c.in_ok-tally.ensures) c.in_ok-step.ensures.after c.in_ok-step.ensures.steps
+    has_read_so c.args.self.now.header.f c.args.fetch c.requires.fetch c.args.cloud c.args.request c.args.answer.now mine none
+    c.tally.new.self.header.f
+    c.answer.new.self c.in_ok-step.step (ap (λ (a : AgentState). a.header.f) c.in_ok-tally.ensures) c.in_ok-step.ensures.after
+    c.in_ok-step.ensures.steps
 
 pub returns-clause-gives : goal.returns-clause-gives
 returns-clause-gives c =
     let mine : is_answer_to (asked_of c.args.fetch.gets) c.args.cloud c.args.request ≡ true = grind (arith, common_steps) in
     let none : is_among c.args.cloud c.args.fetch.tracker.pieces ≡ false = grind (arith, common_steps) in
     gives_by c.reads.result _ _ (taken_gives c.args.self.now c.args.fetch c.requires.fetch c.args.cloud c.args.request c.args.answer.now mine none
-    c.tally.new.self c.answer.new.self c.in_ok-step.step (not c.wants-2.result) c.in_ok-tally.ensures c.in_ok-step.ensures.after c.in_ok-step.ensures.steps
+    c.tally.new.self c.answer.new.self c.in_ok-step.step (not c.wants-2.result) c.in_ok-tally.ensures c.in_ok-step.ensures.after
+    c.in_ok-step.ensures.steps
     (ap not c.wants-2.ensures)) c.reads.ensures.gives
 
 pub returns-clause-after : goal.returns-clause-after
@@ -30,5 +33,6 @@ returns-clause-after c =
     let mine : is_answer_to (asked_of c.args.fetch.gets) c.args.cloud c.args.request ≡ true = grind (arith, common_steps) in
     let none : is_among c.args.cloud c.args.fetch.tracker.pieces ≡ false = grind (arith, common_steps) in
     after_by c.reads.result _ _ _ (taken_after c.args.self.now c.args.fetch c.requires.fetch c.args.cloud c.args.request c.args.answer.now mine none
-    c.tally.new.self c.answer.new.self c.in_ok-step.step (not c.wants-2.result) c.in_ok-tally.ensures c.in_ok-step.ensures.after c.in_ok-step.ensures.steps
+    c.tally.new.self c.answer.new.self c.in_ok-step.step (not c.wants-2.result) c.in_ok-tally.ensures c.in_ok-step.ensures.after
+    c.in_ok-step.ensures.steps
     (ap not c.wants-2.ensures)) c.reads.ensures.after

@@ -10,7 +10,7 @@ returns c =
     subst (λ (a : AgentState). MayAsk a.no a.agent) c.self.view_is
     (record {
       number = omega (arith, kept.member, kept.is_header.agents.1);
-      incarnation = kept.incarnations;
+      incarnation = omega (arith, kept.started, kept.counted);
       opens = omega (arith, kept.opened, kept.counted);
       files = omega (arith, kept.made, kept.counted);
       closes = closes_in _ _ _ _ _ kept.working;

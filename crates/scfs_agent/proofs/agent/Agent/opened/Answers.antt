@@ -8,5 +8,6 @@ pub invariant_of-self-2 : goal.invariant_of-self-2
 invariant_of-self-2 c =
     kept_idle c.self.invariant _
     (subst HaveBases (sym c.in_ok-add.ensures)
-    (opened_bases c.replace-sessions.result c.args.session _ (subst HaveBases (sym c.replace-sessions.ensures.value) c.self.invariant.bases) c.requires.base))
+    (opened_bases c.replace-sessions.result c.args.session _ (subst HaveBases (sym c.replace-sessions.ensures.value) c.self.invariant.bases)
+    c.requires.base))
     (ap (λ (a : AgentState). calls_in a.agent.pending) c.self.view_is ∙ c.requires.free.calls)

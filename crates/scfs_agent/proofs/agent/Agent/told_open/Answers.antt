@@ -1,37 +1,49 @@
-use Rattle.std.proofs.Common.{sym, ap, ◌∙◌, subst}
-use Rattle.scfs_anchor.specs.declared.seen.Sight.{Sight}
-use Rattle.scfs_model.specs.Layers.{Row, rows}
-use Rattle.scfs_model.specs.Agents.{Reaction}
-use Rattle.scfs_model.specs.Opens.{saw}
-use Rattle.scfs_agent.specs.State.{AgentState, setup, given_now}
-use Rattle.scfs_agent.specs.Outputs.{outputs_of}
-use Rattle.scfs_agent.specs.Telling.{FitsSeen, sight_meant}
-use Rattle.scfs_agent.proofs.ToldLemmas.{did_is, open_done, open_fits}
-use Rattle.scfs_agent.proofs.HandingLemmas.{gives_by, after_by}
+use Rattle.std.proofs.Common.{◌≡◌, ◌+◌, ℕ, List, Bool, IfOk, OnOk, sym, ap, ◌∙◌, subst, arith}
+use Rattle.scfs_model.specs.Layers.{Row}
+use Rattle.scfs_model.specs.Leases.{leased}
+use Rattle.scfs_model.specs.Walks.{OrRefusal}
+use Rattle.scfs_model.specs.SessionSteps.{Session_outcome}
+use Rattle.scfs_anchor.specs.StepReplies.{IsSessionReply, FitsSessions}
+use Rattle.scfs_agent.specs.State.{AgentState, given_now}
+use Rattle.scfs_agent.specs.Telling.{open_step}
+use Rattle.scfs_agent.specs.declared.types.Output.{Output}
+use Rattle.scfs_agent.proofs.ToldLemmas.{did_is, with_lock, lock_fits, open_did}
 use Rattle.scfs_agent.proofs.agent.Agent.told_open.Goals as goal
+use Rattle.scfs_agent.proofs.agent.Agent.told_open.Goals.{then-writes+in_ok-lease-in-Did, else-writes}
 
-pub saw-requires-clause-fits : goal.saw-requires-clause-fits
-saw-requires-clause-fits c =
-    let told = c.requires.told in
-    subst FitsSeen (sym c.sight_of-seen.ensures)
-    (open_fits c.args.self.now.header.lease c.args.request c.args.writes told.0 c.args.session told.1 c.args.reply.now told.3 told.4
-    (did_is c.args.reply.now.result _ _ _ c.in-Did.is))
-
-pub returns-in-Did-clause-gives : goal.returns-in-Did-clause-gives
-returns-in-Did-clause-gives c = λ names r same is fits.
+-- the agent that a lock was told to
+locked : (c : goal.After-saw) (names : List (List ℕ)) (r : OrRefusal (Session_outcome Row))
+    → IsSessionReply c.args.self.now.header.lease c.args.request (open_step c.args.writes names c.args.session) r c.args.reply.now
+    → FitsSessions (open_step c.args.writes names c.args.session) r
+    → c.if-writes.self ≡ record c.args.self.now {
+      agent = with_lock c.args.writes c.args.self.now.agent c.args.session (c.args.reply.now.now + c.args.self.now.header.lease);
+    }
+locked c names r is fits =
     let old = c.args.self.now in
-    let given = given_now c.args.now c.args.ranks.now in
-    gives_by c.saw.result _ _
-    (ap (λ (seen : Sight). outputs_of old (saw (setup old) rows old.no old.agent given c.args.request c.args.session c.args.writes (sight_meant seen))) c.sight_of-seen.ensures
-    ∙ ap (outputs_of old) (open_done (setup old) old.no old.header.lease old.agent given c.args.request c.args.writes names c.args.session r c.args.reply.now is
-    (did_is c.args.reply.now.result _ _ _ c.in-Did.is))) c.saw.ensures.gives
+    let lock : Bool → ℕ → AgentState = λ b until. record old { agent = with_lock b old.agent c.args.session until } in
+    elim c.if-writes.branch [
+      | then-writes+in_ok-lease-in-Did w ↦
+          let fit = lock_fits old.header.lease c.args.request c.args.writes names c.args.session r c.args.reply.now is fits
+          (did_is c.args.reply.now.result _ _ _ c.in-Did.is) w.if-writes.true in
+          let until : w.saturating_add.result ≡ c.args.reply.now.now + old.header.lease =
+          omega (arith, fit, w.saturating_add.ensures, ap (λ (a : AgentState). a.header.lease) w.lease.view_is) in
+          w.self-is ∙ w.in_ok-lease-in-Did.ensures ∙ ap (λ (n : ℕ). record old { agent = leased old.agent c.args.session n }) until
+          ∙ ap (λ (b : Bool). lock b (c.args.reply.now.now + old.header.lease)) (sym w.if-writes.true)
+      | else-writes w ↦ w.self-is ∙ ap (λ (b : Bool). lock b (c.args.reply.now.now + old.header.lease)) (sym w.if-writes.false)
+    ]
 
-pub returns-in-Did-clause-after : goal.returns-in-Did-clause-after
-returns-in-Did-clause-after c = λ names r same is fits.
-    let old = c.args.self.now in
-    let given = given_now c.args.now c.args.ranks.now in
-    let left : Reaction Row → AgentState = λ q. record old { agent = q.agent } in
-    after_by c.saw.result _ _ _
-    (ap (λ (seen : Sight). left (saw (setup old) rows old.no old.agent given c.args.request c.args.session c.args.writes (sight_meant seen))) c.sight_of-seen.ensures
-    ∙ ap left (open_done (setup old) old.no old.header.lease old.agent given c.args.request c.args.writes names c.args.session r c.args.reply.now is
-    (did_is c.args.reply.now.result _ _ _ c.in-Did.is))) c.saw.ensures.after
+pub returns-after-writes-clause-gives : goal.returns-after-writes-clause-gives
+returns-after-writes-clause-gives c = λ names r same is fits.
+    subst (λ (p : List Output × AgentState). IfOk c.saw.result (λ given. given ≡ p.0))
+    (open_did c.args.self.now c.if-writes.self (given_now c.args.now c.args.ranks.now) c.args.request c.args.writes names c.args.session r
+    c.args.reply.now
+    c.sight_of-seen.result is (did_is c.args.reply.now.result _ _ _ c.in-Did.is) c.sight_of-seen.ensures (locked c names r is fits))
+    c.saw.ensures.gives
+
+pub returns-after-writes-clause-after : goal.returns-after-writes-clause-after
+returns-after-writes-clause-after c = λ names r same is fits.
+    subst (λ (p : List Output × AgentState). OnOk c.saw.result (c.saw.new.self ≡ p.1))
+    (open_did c.args.self.now c.if-writes.self (given_now c.args.now c.args.ranks.now) c.args.request c.args.writes names c.args.session r
+    c.args.reply.now
+    c.sight_of-seen.result is (did_is c.args.reply.now.result _ _ _ c.in-Did.is) c.sight_of-seen.ensures (locked c names r is fits))
+    c.saw.ensures.after

@@ -21,7 +21,14 @@ ask_gets-requires-clause-few c =
     let kept : c.as_slice.result.now ≡ filter test c.args.fetch.tracker.reading.order =
     c.as_slice.ensures ∙ c.in_ok-wanted.ensures ∙ ap (filter test) c.order.ensures in
     let f : c.self.inside.header.f ≡ c.args.self.now.header.f = ap (λ (a : AgentState). a.header.f) c.self.view_is in
-    omega (arith, ap length kept, filter_short test c.args.fetch.tracker.reading.order, c.requires.fetch.clouds.as_many, f, c.self.invariant.is_header.f.1)
+    omega (
+      arith,
+      ap length kept,
+      filter_short test c.args.fetch.tracker.reading.order,
+      c.requires.fetch.clouds.as_many,
+      f,
+      c.self.invariant.is_header.f.1,
+    )
 
 pub ask_gets-requires-clause-clouds : goal.ask_gets-requires-clause-clouds
 ask_gets-requires-clause-clouds c =
@@ -37,7 +44,10 @@ ask_gets-requires-clause-fetch c =
     let kept : c.as_slice.result.now ≡ filter test c.args.fetch.tracker.reading.order =
     c.as_slice.ensures ∙ c.in_ok-wanted.ensures ∙ ap (filter test) c.order.ensures in
     subst (λ (clouds : List ℕ). IsFetchAsking c.args.self.now.header.f (record c.args.fetch { tracker = c.turn.new.self }) clouds) (sym kept)
-    (subst (λ (t : Tracker). IsFetchAsking c.args.self.now.header.f (record c.args.fetch { tracker = t }) (filter test c.args.fetch.tracker.reading.order))
+    (subst (λ (t : Tracker). IsFetchAsking c.args.self.now.header.f (record c.args.fetch {
+      tracker =
+          t;
+    }) (filter test c.args.fetch.tracker.reading.order))
     (sym c.turn.ensures.after) (turn_asking c.args.self.now.header.f c.args.fetch c.requires.fetch (sym c.turn.ensures.steps ∙ c.in-Again.is)))
 
 pub returns-in-Again-clause-gives : goal.returns-in-Again-clause-gives
@@ -45,9 +55,12 @@ returns-in-Again-clause-gives c =
     let old = c.args.self.now in
     let fetch = c.args.fetch in
     let test : ℕ → _ = λ (d : ℕ). not (is_among d fetch.tracker.pieces) in
-    let kept : c.as_slice.result.now ≡ filter test fetch.tracker.reading.order = c.as_slice.ensures ∙ c.in_ok-wanted.ensures ∙ ap (filter test) c.order.ensures in
-    let asks : Tracker → List ℕ → Reaction Row = λ t clouds. asks_gets (setup old) rows old.no old.agent (opening_of (record fetch { tracker = t })) clouds in
+    let kept : c.as_slice.result.now ≡ filter test fetch.tracker.reading.order =
+    c.as_slice.ensures ∙ c.in_ok-wanted.ensures ∙ ap (filter test) c.order.ensures in
+    let asks : Tracker → List ℕ → Reaction Row =
+    λ t clouds. asks_gets (setup old) rows old.no old.agent (opening_of (record fetch { tracker = t })) clouds in
     gives_by c.ask_gets.result _ _
     (ap (λ (clouds : List ℕ). outputs_of old (asks c.turn.new.self clouds)) kept
     ∙ ap (λ (t : Tracker). outputs_of old (asks t (filter test fetch.tracker.reading.order))) c.turn.ensures.after
-    ∙ ap (λ (r : Reaction Row). outputs_of old r) (sym (turn_again old old.agent fetch c.requires.fetch (sym c.turn.ensures.steps ∙ c.in-Again.is)))) c.ask_gets.ensures.gives
+    ∙ ap (λ (r : Reaction Row). outputs_of old r) (sym (turn_again old old.agent fetch c.requires.fetch (sym c.turn.ensures.steps ∙ c.in-Again.is))))
+    c.ask_gets.ensures.gives

@@ -6,5 +6,6 @@ use Rattle.scfs_world.proofs.world.World.space_reply.Goals as goal
 
 pub returns : goal.returns
 returns c =
-    seat_there (λ (seat : SeatState). IsTrue c.replies.result ↔ (seat.replied ≢ [])) (the_view c.self.inside) c.args.self.now c.args.agent c.from.result
-    c.index.result.now c.self.view_is c.from.ensures c.index.ensures c.requires c.replies.ensures
+    seat_there (λ (seat : SeatState). IsTrue c.replies.result ↔ (seat.replied ≢ []))
+    (the_view c.self.inside) c.args.self.now c.self.view_is c.args.agent
+    c.from.result c.index.result.now c.from.ensures c.index.ensures c.requires c.replies.ensures
