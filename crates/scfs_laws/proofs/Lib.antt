@@ -47,7 +47,6 @@ pub mod DrawnMoves
 pub mod DrawnServes
 pub mod DrawnSeats
 pub mod NamesWalks
-pub mod NamesEvents
 pub mod NamesSteps
 pub mod NamesApart
 pub mod NamesLocks
