@@ -1,14 +1,6 @@
 pub mod Lists
 pub mod ListMaps
 pub mod AgentMaps
-pub mod LeaseMaps
-pub mod OpenMaps
-pub mod CloseMaps
-pub mod SessionMaps
-pub mod StepMaps
-pub mod CallMaps
-pub mod ToldMaps
-pub mod ReactionMaps
 pub mod StateMaps
 pub mod TwoLayers
 pub mod SoundKept
