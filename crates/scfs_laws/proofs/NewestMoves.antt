@@ -97,13 +97,14 @@ module _ {V : Type 0} (s : Setup) (vs : Versions V) (past : History) (a : ℕ) w
         turn = Unit {0};
         crash = Unit {0};
         start = Unit {0};
+        takes = Unit {0};
       }
 
   moves : (given : Given) → Moves s vs a known given Whole
   moves given =
       record {
         still = λ g latest w. (tt, w);
-        follow = λ g first second one two latest w.
+        follow = λ g first second order one two latest w.
             let h = one latest w in
             let n = two (after_says latest first.says) h.1 in (
               says_append past a latest first.says second.says h.0 n.0,
@@ -111,15 +112,17 @@ module _ {V : Type 0} (s : Setup) (vs : Versions V) (past : History) (a : ℕ) w
             );
         aside = λ g life leases tallies opens same latest w. (tt, w);
         told = λ g request latest w. (tt, w);
-        waits = λ g later free latest w. (tt, subst (λ o. IfSome o (IsOpen vs past latest)) (sym free) tt);
+        frees = λ g takes latest w. (tt, tt);
         says_plain = λ g x plain latest w.
             let k = plain_ok past a latest x plain in ((k.0, tt), subst (λ l. WaitOk vs past l g.waiting) (sym k.1) w);
-        asks = λ g step common latest w. (tt, w);
-        makes = λ g path names k latest w. (tt, w);
-        writes = λ g h offset new y k ok latest w. (tt, w);
-        truncates = λ g h size y ok latest w. (tt, w);
-        ends = λ g h latest w. (tt, w);
-        closes = λ g h y found latest w. (tt, w);
+        asks = λ g x latest w. (tt, w);
+        steps = λ g step common latest w. (tt, tt);
+        makes = λ g path names k latest w. (tt, tt);
+        reads = λ g h offset count bytes k ok latest w. ((tt, tt), w);
+        writes = λ g h offset new y k ok latest w. ((tt, tt), w);
+        truncates = λ g h size y k ok latest w. ((tt, tt), w);
+        ends = λ g h k latest w. (tt, w);
+        closes = λ g h y k found latest w. (tt, tt);
         sees_empty = λ g request h writes sight k is latest w.
             let none : sight.number ≡ 0 = found_ok vs past sight As_empty k.2 is in
             (((k.0, k.1), (((refl, k.1), ((λ e. (refl, refl)), (λ apart. absurd (apart none)))), tt)), tt);
@@ -127,18 +130,19 @@ module _ {V : Type 0} (s : Setup) (vs : Versions V) (past : History) (a : ℕ) w
             let there = found_ok vs past sight (On_clouds v) k.2 is in
             (((k.0, k.1), tt), ((there.0, k.1), λ e. there.1 (sym there.0 ∙ e)));
         turns_open = λ g o latest w. (tt, w);
-        hears_open = λ g o c request answer k awaited latest w. (tt, w);
+        hears_open = λ g o c request answer takes k awaited latest w. (tt, w);
         gets = λ g o clouds latest w. (tt, w);
-        shows = λ g o bytes latest w. (((w.0, ((λ e. absurd (w.1 e)), (λ apart. refl))), tt), tt);
+        loses = λ g o latest w. (tt, tt);
+        shows = λ g o bytes all latest w. (((w.0, ((λ e. absurd (w.1 e)), (λ apart. refl))), tt), tt);
         turns_upload = λ g x u latest w. (tt, w);
-        hears_upload = λ g x u c request answer k new latest w. (tt, w);
+        hears_upload = λ g x u c request answer k new few latest w. (tt, w);
         puts = λ g x u clouds k within latest w. (tt, w);
-        commits = λ g x u enough latest w. (tt, w);
-        drops = λ g x latest w. (tt, w);
+        commits = λ g x u c request answer k new just latest w. (tt, w);
+        drops = λ g x why latest w. (tt, tt);
         downs = λ g up k latest w. ((tt, tt), tt);
         ups = λ g up k latest w. ((tt, tt), w);
       }
 
   pub whole_reacted : (g : Agent V) (given : Given) (input : Input V) → is_up g.life ≡ has_up input → IsInput known input
       → Whole g (reacted s vs a g given input)
-  whole_reacted g given input up k = reacts s vs a known given Whole (moves given) (λ g x latest w. (tt, w)) g input up k
+  whole_reacted g given input up k = reacts s vs a known given Whole (moves given) (λ g x latest w. (tt, w)) tt g input up k

@@ -145,6 +145,7 @@ module _ (s : Setup) (Among : (c : ℕ) → (bytes : List ℕ) → Type 0) where
         turn = Unit {0};
         crash = Unit {0};
         start = Unit {0};
+        takes = Unit {0};
       }
 
   -- a request whose object, where it puts one, is among them
