@@ -3,8 +3,8 @@
 # three runs of about two seconds of processor time each. A run of few rounds is subtracted, so that starting and filling don't count.
 # Then it prints how many steps a second like that of a commit the tuple space does over 1,000 and over 100,000 tuples, how many
 # megabytes a second are sealed and opened over 64 KiB and 1 MiB, how many the reader of schedules reads, in pieces of 64 KiB and byte by
-# byte, and how long a replay of two writers takes and how much memory at its peak. Last it prints what the machine itself does in the
-# same run: how fast it copies memory, and OpenSSL's SHA-256 and ChaCha20 where it has `openssl`.
+# byte, and how long replays of two writers take, with and without restarts, and how much memory at their peak. Last it prints what the
+# machine itself does in the same run: how fast it copies memory, and OpenSSL's SHA-256 and ChaCha20 where it has `openssl`.
 set -euo pipefail
 bench=$(cd "$(dirname "$0")" && pwd)
 cd "$bench/../crates/scfs_bench"

@@ -38,14 +38,16 @@ const ACKED: (&str, &str) = (
 
 /// Runs the parts one behind the other.
 fn plays(rt: &(impl Abort + AllocGlobal), parts: &[(&str, &str)]) -> Result<(), Fail> {
-    let mut events = String::new(rt.alloc());
+    let mut schedule = String::from_str(rt.alloc(), PAIR)?;
     let mut lines = String::new(rt.alloc());
-    for (asked, written) in parts {
-        events.push_str(asked)?;
+    for (events, written) in parts {
+        schedule.push_str(events)?;
         lines.push_str(written)?;
     }
+    schedule.push_str("end\n")?;
     let run = Run {
-        input: &[PAIR, events.as_str(), "end\n"],
+        words: &["replay"],
+        input: &[schedule.as_str()],
         ..REPLAY
     };
     expect(rt, run, Status::Done, &[lines.as_str()])

@@ -4,7 +4,6 @@ mod WholeLaw
 mod ServedLines
 mod OutputLemmas
 mod TogetherLemmas
-mod FitLemmas
 mod InputLemmas
 mod DoneLemmas
 mod SeatLemmas

@@ -1,7 +1,6 @@
 -- What the outputs of a reaction come to: its lines, its steps, and its requests at the clouds.
 use Rattle.std.proofs.Common.{◌≡◌, ℕ, ◌+◌, ◌*◌, ◌≤◌, List, [], ◌∷◌, ◌++◌, map, length, refl, ap, ◌∙◌, arith, All, length-set, append_assoc, append-nil}
 use Rattle.std.proofs.lemmas.List.Elements.{All-weaker, All-append, All-head, All-tail, All-nil, All-cons}
-use Rattle.scfs_schedule.specs.declared.types.Line.{Line}
 use Rattle.scfs_tuples.specs.Steps.{IsStep}
 use Rattle.scfs_net.specs.Queues.{NetState, asked, cloud_at}
 use Rattle.scfs_model.specs.Clouds.{asked_by, all_asked}

@@ -42,7 +42,7 @@ use Rattle.scfs_world.specs.declared.fault.StepFault.{StepFault}
 use Rattle.scfs_world.specs.declared.fault.StepFault.TheVariants as faults
 use Rattle.scfs_world.specs.declared.seat.StepReply.{StepReply}
 use Rattle.scfs_world.proofs.DoneLemmas.{if_keeps, told_keeps, served_keeps, postponed_keeps}
-use Rattle.scfs_world.proofs.FitLemmas.{told_fits}
+use Rattle.scfs_agent.proofs.ToldLemmas.{told_fits}
 use Rattle.scfs_world.proofs.InputLemmas.{comes_does}
 use Rattle.scfs_world.proofs.ServedLines.{line_served}
 use Rattle.scfs_world.proofs.TogetherLemmas.{one_behind, from_any}
@@ -297,7 +297,8 @@ module _ (allows : RankFacts → ℕ → Type 0) (now : ℕ) (space : List Tuple
       pub come_does : IsAtSeat b event → ((c : ℕ) → ¬ (event ≡ events.Space c)) → ((c : ℕ) → ¬ (event ≡ events.Later c))
           → ((c : ℕ) → ¬ (event ≡ events.Told c)) → Brings allows now old new net after event result → Seat_does
       come_does of no_space no_later no_told did = (
-        λ header a most state m at. brings_does allows now space new net after header a most state result old m at event b of no_space no_later no_told did,
+        λ header a most state m at.
+            brings_does allows now space new net after header a most state result old m at event b of no_space no_later no_told did,
         if_keeps allows now old new net after carried (can_come event old.agent.agent.life) (input_of event) [] lines.Skip result did,
       )
 

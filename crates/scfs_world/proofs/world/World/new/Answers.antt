@@ -1,4 +1,4 @@
-use Rattle.std.proofs.Common.{◌+◌, ◌∷◌, ◌++◌, [], ap, sym, ◌∙◌, arith}
+use Rattle.std.proofs.Common.{◌∷◌, ◌++◌, [], ap, sym, ◌∙◌, arith}
 use Rattle.scfs_world.proofs.NewLemmas.{new_seats, one_more, new_stands, new_world}
 use Rattle.scfs_world.proofs.world.World.new.Goals as goal
 
