@@ -29,9 +29,8 @@ use Rattle.scfs_laws.proofs.HeldSessions.{held_ended, held_found}
 use Rattle.scfs_laws.proofs.HeldSeats.{latest, IsRow, Between, Seated}
 use Rattle.scfs_laws.proofs.HeldSteps.{all_idle, any_change}
 use Rattle.scfs_laws.proofs.HeldLines.{Does}
-use Rattle.scfs_laws.proofs.HeldDoing.{at, seat_of, refuse_does, not_begun, followed_silent}
-use Rattle.scfs_laws.proofs.HeldCalls.{ended_does}
-use Rattle.scfs_laws.proofs.HeldCloses.{puts_does}
+use Rattle.scfs_laws.proofs.HeldDoing.{at, seat_of, not_begun, followed_silent}
+use Rattle.scfs_laws.proofs.HeldMoves.{plain_does, puts_does}
 
 -- whether the lines of a reaction answer a close
 abbrev pub answers_close : (s : Setup) → (a : ℕ) → Reaction Row → Bool
@@ -89,7 +88,7 @@ module _ (s : Setup) (event : Event) (a : ℕ) (versions : List Version_seen) (y
         storing = record { name = upload_name number; unit = unit; puts = [] ++ puts; acked = []; turns = 0 };
       } in
       let x : Closed Row = record { number = h; session = z; upload = Some u } in
-      puts_does s event a versions (with_close a h y) asked replied
+      puts_does s event a versions replied (with_close a h y) asked
       (record agent { sessions = ended agent.sessions h; waiting = Some For_close; closed = x ∷ []; uploads = agent.uploads + 1 })
       (below (clouds_of s))
       (upload_name number) (object_at unit)
@@ -112,7 +111,7 @@ module _ (s : Setup) (event : Event) (a : ℕ) (versions : List Version_seen) (y
       → Closing (followed (refuse agent why) (λ next. next_begun s rows a next next.closed))
   refused_closing agent why is still =
       subst Closing (sym (followed_silent (refuse agent why) (λ next. next_begun s rows a next next.closed) still))
-      (inl (refl, refuse_does s event a versions y asked replied agent why is))
+      (inl (refl, plain_does s event a versions replied (says.Refuses why) tt agent y asked is))
 
   ends_closing : (agent : Agent Row) (z : Session) (writes : Bool) → session_of agent.sessions h ≡ Some z
       → Sits (at agent None [])
@@ -127,7 +126,12 @@ module _ (s : Setup) (event : Event) (a : ℕ) (versions : List Version_seen) (y
         record { seated = does.seated; says = does.says; sent = does.sent },
       )
   ends_closing agent z false there is =
-      let does = ended_does s a versions y asked replied event agent h is in
+      let held = held_ended y.bytes agent.sessions h is.based.held in
+      let does = plain_does s event a versions replied (says.Ended h) tt (left agent) y asked (record {
+        based = record { held = held; same = is.based.same; ahead = is.based.ahead; upload = is.based.upload };
+        waits = is.waits;
+        steps = is.steps;
+      }) in
       inl (refl, record { seated = does.seated; says = does.says; sent = does.sent })
 
   close_closing : (agent : Agent Row) (there : Option Session) → session_of agent.sessions h ≡ there

@@ -26,7 +26,8 @@ use Rattle.scfs_laws.proofs.HeldStays.{IsUsual, reacted_stays}
 use Rattle.scfs_laws.proofs.HeldStands.{asks_there, replies_there, IsPast, Stands, doing_close, reacted_stands}
 use Rattle.scfs_laws.proofs.HeldLines.{Becomes, of_agent_becomes, nothing_becomes, then_becomes, after_doing, IsSaid, IsOwn, lines_become, Does}
 use Rattle.scfs_laws.proofs.HeldDoing.{reacted_does}
-use Rattle.scfs_laws.proofs.HeldCalls.{IsNoClose, call_does}
+use Rattle.scfs_laws.proofs.HeldMoves.{IsNoClose}
+use Rattle.scfs_laws.proofs.HeldInputs.{call_does}
 use Rattle.scfs_laws.proofs.HeldClosing.{closing}
 use Rattle.scfs_laws.proofs.HeldVersions.{Tied}
 use Rattle.scfs_laws.proofs.HeldSpace.{IsSeenIn, IsShown, Keeps, get_cases}
@@ -113,7 +114,7 @@ module _ (s : Setup) (message : Option Message) (x : Seen) (state : State Row) (
       let replied : List (Reply Row) = replies_there seat.agent seat.replied in
       own_keeps (events.Call a call) a seat mine seat.replied (Calls call) up tt mine.replies
       (reacted_does s (events.Call a call) a x.versions (x.agents a) asked replied seat.agent given (Calls call)
-      (call_does s a x.versions (x.agents a) asked replied seat.agent seat.agent.waiting seat.agent.closed call kind mine.seated))
+      (call_does s a x.versions (x.agents a) asked replied seat.agent given call kind mine.seated))
 
   -- a close
   pub close_found : (a h : ℕ) (seat : Seat Row) → Stands s x.versions a (x.agents a) seat → is_up seat.agent.life ≡ true

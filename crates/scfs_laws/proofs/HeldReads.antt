@@ -28,12 +28,11 @@ use Rattle.scfs_laws.proofs.Lists.{Each, eqb-apart, each-map, each-always, each-
 use Rattle.scfs_laws.proofs.HeldSeats.{Waits, Seated}
 use Rattle.scfs_laws.proofs.HeldLines.{Becomes, set_there, of_agent_becomes, nothing_becomes, after_doing, Does}
 use Rattle.scfs_laws.proofs.HeldDoing.{seat_of, followed_silent, reacted_does}
-use Rattle.scfs_laws.proofs.HeldTold.{tells_does}
-use Rattle.scfs_laws.proofs.HeldWork.{hears_does, turns_does}
+use Rattle.scfs_laws.proofs.HeldInputs.{tells_does, hears_does, turns_does}
 use Rattle.scfs_laws.proofs.HeldSpace.{IsSeenIn, IsShown, Keeps, seat_set, serves_keeps, postpones_keeps}
 use Rattle.scfs_laws.proofs.HeldStays.{reacted_stays}
 use Rattle.scfs_laws.proofs.HeldStands.{asks_there, replies_there, IsOne, IsPast, Stands, doing_close, reacted_stands, filter_all, filter_none}
-use Rattle.scfs_laws.proofs.HeldCalls.{IsNoClose}
+use Rattle.scfs_laws.proofs.HeldMoves.{IsNoClose}
 use Rattle.scfs_laws.proofs.Ways.{IsStill, own_input, up_there, of_event}
 use Rattle.scfs_laws.proofs.Moves.{has_up}
 use Rattle.scfs_laws.proofs.HeldPlaces.{bytes_of, did_keeps, own_keeps, call_keeps, close_found}
@@ -168,7 +167,7 @@ module _ (s : Setup) (message : Option Message) (x : Seen) (state : State Row) (
       let r : Reaction Row = reacted s rows a seat.agent given input in
       let does : Does s event a x.versions y asked replied r =
       reacted_does s event a x.versions y asked replied seat.agent given input
-      (hears_does s event a x.versions (x.agents a) asked replied seat.agent c request answer mine.seated) in
+      (hears_does s event a x.versions (x.agents a) asked replied seat.agent given c request answer mine.seated) in
       did_keeps s event message (bytes_of x) x state x a (x.agents a) y seat (lines.Gave c request (sum_of s answer) ∷ []) r is (nothing_becomes a x)
       (subst (λ m. Becomes a x (of_agent a (with_reading (after_message s c request m)) x) y) (sym about)
       (of_agent_becomes a (with_reading (after_answer s c request answer)) x)) refl (tt, tt) does.says does.sent
@@ -193,7 +192,7 @@ module _ (s : Setup) (message : Option Message) (x : Seen) (state : State Row) (
       subst (λ b. Seated s x.versions a (x.agents a) (seat_of g asked (cond b (oldest ∷ replies_there g rest) (replies_there g rest)))) there whole.seated in
       own_keeps s message x state given is event a seat mine rest (Tells oldest.number oldest.outcome) (up_there g oldest.number there) tt whole.replies.1
       (reacted_does s event a x.versions (x.agents a) asked (replies_there g rest) g given (Tells oldest.number oldest.outcome)
-      (tells_does s event a x.versions (x.agents a) asked oldest (replies_there g rest) g given seated))
+      (tells_does s event a x.versions (x.agents a) asked (replies_there g rest) g given oldest (up_there g oldest.number there) seated))
 
   -- or gone
   missed_keeps : (event : Event) (a : ℕ) (seat : Seat Row) (oldest : Reply Row) (rest : List (Reply Row)) → seat.replied ≡ oldest ∷ rest

@@ -16,12 +16,9 @@ pub mod HeldSeats
 pub mod HeldSteps
 pub mod HeldLines
 pub mod HeldDoing
-pub mod HeldCalls
-pub mod HeldCloses
+pub mod HeldMoves
+pub mod HeldInputs
 pub mod HeldClosing
-pub mod HeldOpens
-pub mod HeldTold
-pub mod HeldWork
 pub mod HeldStays
 pub mod HeldVersions
 pub mod HeldStands

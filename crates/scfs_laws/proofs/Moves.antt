@@ -149,7 +149,7 @@ module _ {V : Type 0} where
   IsShort s (Some u) = is_enough s u.storing ≡ false
 
   -- without what waited for a step that came to this
-  abbrev freed_open : Agent V → OrRefusal (Session_outcome V) → Agent V
+  abbrev pub freed_open : Agent V → OrRefusal (Session_outcome V) → Agent V
   freed_open g (Ok (Completes h v n)) = g
   freed_open g other = awaiting g None
 
@@ -158,7 +158,7 @@ module _ {V : Type 0} where
   freed_closed g x (Ok (Locks sight l)) = closing g x
   freed_closed g x other = awaiting g None
 
-  abbrev freed_commit : Agent V → List (Closed V) → OrRefusal (Session_outcome V) → Agent V
+  abbrev pub freed_commit : Agent V → List (Closed V) → OrRefusal (Session_outcome V) → Agent V
   freed_commit g [] r = g
   freed_commit g (x ∷ rest) r = freed_closed (record g { closed = rest }) x r
 
@@ -241,7 +241,7 @@ module _ {V : Type 0} (s : Setup) (vs : Versions V) (a : ℕ) (known : Known V) 
     pub downs : (g : Agent V) → is_up g.life ≡ true → known.crash → P g (crashes s vs a g)
     pub ups : (g : Agent V) → is_up g.life ≡ false → known.start → P g (saying (next_life g) (says.Started (g.incarnation + 1)))
 
-chosen : {A : Type 0} (Q : A → Type 0) (b : Bool) (x y : A) → (b ≡ true → Q x) → (b ≡ false → Q y) → Q (cond b x y)
+pub chosen : {A : Type 0} (Q : A → Type 0) (b : Bool) (x y : A) → (b ≡ true → Q x) → (b ≡ false → Q y) → Q (cond b x y)
 chosen Q true x y h k = h refl
 chosen Q false x y h k = k refl
 
