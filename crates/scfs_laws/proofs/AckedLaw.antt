@@ -118,7 +118,7 @@ module _ (s : Setup) where
         let A : ℕ → CloudRequest → ℕ → Type 0 = WasAcked s (e ∷ past) a in
         let U : UploadNo → List ℕ → Type 0 = WasUploading s past a in
         usual a seat input New (λ x k. inr k) (λ x k. k)
-        (responds s rows a (known s a New A U New) now (Keeps s a New A U New) (moves s a New A U New now) seat.agent input (up ∙ sym ups) fits) found h up
+        (responds s rows a (known s a New A U New) now (Keeps s a New A U New) (moves s a New A U New now) tt seat.agent input (up ∙ sym ups) fits) found h up
 
     own : (a : ℕ) (seat : Seat Row) (x : At_agent) → slice_get (actual s past).seats a ≡ Some seat → IsAgent past a seat.agent
         → is_up seat.agent.life ≡ has_up {V = Row} (own_input x)
@@ -142,7 +142,7 @@ module _ (s : Setup) where
         let shown : Contains e.lines (lines.Gave c request (sum_of s answer)) =
         subst (λ ls. Contains ls (lines.Gave c request (sum_of s answer))) (sym same) (0, omega arith, refl) in
         usual a seat (Hears c request answer) M (λ x k. k) (λ x k. inr k)
-        (responds s rows a (known s a M A U New) now (Keeps s a M A U New) (moves s a M A U New now) seat.agent (Hears c request answer) up
+        (responds s rows a (known s a M A U New) now (Keeps s a M A U New) (moves s a M A U New now) tt seat.agent (Hears c request answer) up
         (λ ack body mine made. inl (
           request,
           mine,

@@ -25,7 +25,7 @@ use Rattle.scfs_model.specs.Reactions.{next_begun}
 use Rattle.scfs_model.specs.Layers.{Row, Version, rows, row_of}
 use Rattle.scfs_laws.specs.Acknowledged.{put_of}
 use Rattle.scfs_laws.proofs.Lists.{Each, Pairs, each-map, each-append, each-front, each-back, each-inside, same_number}
-use Rattle.scfs_laws.proofs.Moves.{Known, IsCommon, Moves, each-below, next_begins}
+use Rattle.scfs_laws.proofs.Moves.{just_enough, Known, IsCommon, Moves, each-below, next_begins}
 
 abbrev pub Differ : List ℕ → Type 0
 Differ ns = Pairs (λ m n. m ≢ n) ns
@@ -191,6 +191,7 @@ module _ (s : Setup) (a : ℕ) (Sends : Sent → Type 0) (Acked : (incarnation :
           turn = (x : Sent) → New x → Sends x;
           crash = ⊥;
           start = ⊥;
+          takes = Unit {0};
         }
 
     acked_more : (i : ℕ) (y : Session) (u : Upload Row) (c : ℕ) (request : RequestNo) (answer : CloudAnswer)
@@ -235,32 +236,41 @@ module _ (s : Setup) (a : ℕ) (Sends : Sent → Type 0) (Acked : (incarnation :
     moves given =
         record {
           still = λ g up k sent. (up, k, tt);
-          follow = λ g first second one two up k sent.
+          follow = λ g first second order one two up k sent.
               let h = one up k (each-front New first.sent second.sent sent) in
               let n = two h.0 h.1 (each-back New first.sent second.sent sent) in
               (n.0, n.1, each-append IsRequest first.steps second.steps h.2 n.2);
           aside = λ g life leases tallies opens same up k sent. (same ∙ up, k, tt);
           told = λ g request up k sent. (up, k, tt);
-          waits = λ g w free up k sent. (up, k, tt);
+          frees = λ g takes up k sent. (up, k, tt);
           says_plain = λ g x plain up k sent. (up, k, tt);
-          asks = λ g step other up k sent. (up, k, (other_step (request_no a g.incarnation (g.requests + 1)) step other, tt));
+          asks = λ g x up k sent. (up, k, (tt, tt));
+          steps = λ g step common up k sent. (up, k, (other_step (request_no a g.incarnation (g.requests + 1)) step common, tt));
           makes = λ g path names know up k sent. (up, k, (tt, tt));
+          reads = λ g h offset count bytes know ok up k sent. (up, k, tt);
           writes = λ g h offset new y know ok up k sent. (up, k, tt);
-          truncates = λ g h size y ok up k sent. (up, k, tt);
-          ends = λ g h up k sent. (up, k, tt);
-          closes = λ g h y found up k sent. (up, each-append _ g.closed _ k (tt, tt), tt);
+          truncates = λ g h size y know ok up k sent. (up, k, tt);
+          ends = λ g h know up k sent. (up, k, tt);
+          closes = λ g h y know found up k sent. (up, each-append _ g.closed _ k (tt, tt), tt);
           sees_empty = λ g request h writes sight know is up k sent. (up, k, tt);
           sees_version = λ g request h writes sight v know is up k sent. (up, k, tt);
           turns_open = λ g o up k sent. (up, k, tt);
-          hears_open = λ g o c request answer know awaited up k sent. (up, k, tt);
+          hears_open = λ g o c request answer takes know awaited up k sent. (up, k, tt);
           gets = λ g o clouds up k sent. (up, k, tt);
-          shows = λ g o bytes up k sent. (up, k, tt);
+          loses = λ g o up k sent. (up, k, tt);
+          shows = λ g o bytes all up k sent. (up, k, tt);
           turns_upload = λ g x u up k sent. (up, k, tt);
-          hears_upload = λ g x u c request answer know new up k sent.
+          hears_upload = λ g x u c request answer know new few up k sent.
               (up, (acked_more g.incarnation x.session u c request answer know k.0 new, k.1), tt);
           puts = λ g x u clouds know within up k sent. (up, (put_more g x.session u clouds k.0 within (each-map New Sends know _ sent), k.1), tt);
-          commits = λ g x u enough up k sent. (up, k, ((refl, enough_stored g.incarnation x.session u k.0 enough), tt));
-          drops = λ g x up k sent. (up, k.1, tt);
+          commits = λ g x u c request answer know new just up k sent.
+              let more = acked_more g.incarnation x.session u c request answer know k.0 new in
+              let enough = just_enough s u c just in (
+                up,
+                (more, k.1),
+                ((refl, enough_stored g.incarnation x.session (with_storing u (with_ack u.storing c)) more enough), tt),
+              );
+          drops = λ g x why up k sent. (up, k.1, tt);
           downs = λ g up none. absurd none;
           ups = λ g up none. absurd none;
         }

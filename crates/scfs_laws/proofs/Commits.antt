@@ -103,10 +103,10 @@ module _ {V : Type 0} (s : Setup) (vs : Versions V) (state : State V) (given : G
   all_done =
       of_event s vs state given message Done place
       (record {
-        nothing = λ shown idle. each-map _ _ (λ l k. others_done state.tree.versions l (idle_no_commit l k)) shown idle;
+        nothing = λ shown idle bare. each-map _ _ (λ l k. others_done state.tree.versions l (idle_no_commit l k)) shown idle;
         later = λ ticks. tt;
         gone = λ a seat request found. (tt, tt);
-        missed = λ a seat oldest rest found is. (tt, tt);
+        missed = λ a seat oldest rest found is away. (tt, tt);
         own = λ a seat x found at up. come a [] (own_input x) seat tt;
         hears = λ c request answer seat found at about there.
             come request.agent (lines.Gave c request (sum_of s answer) ∷ []) (Hears c request answer) seat (tt, tt);

@@ -125,34 +125,38 @@ module _ {V : Type 0} (s : Setup) (vs : Versions V) (a : ℕ) where
         turn = Unit {0};
         crash = Unit {0};
         start = ⊥;
+        takes = Unit {0};
       }
 
   moves : (given : Given) → Moves s vs a others given (Draws 0)
   moves given =
       record {
         still = draws_silent 0;
-        follow = draws_follow 0;
+        follow = λ g first second order. draws_follow 0 g first second;
         aside = λ g life leases tallies opens same. draws_silent 0 g;
         told = λ g request. draws_silent 0 g;
-        waits = λ g w free. draws_silent 0 g;
+        frees = λ g takes. draws_silent 0 g;
         says_plain = λ g x plain. draws_silent 0 g;
-        asks = λ g step common. draws_step 0 g step (makes_common a (files_by g) (files_by g) step common);
+        asks = λ g x. draws_step 0 g (On_locks x) tt;
+        steps = λ g step common. draws_step 0 g step (makes_common a (files_by g) (files_by g) step common);
         makes = λ g path names none. absurd none;
+        reads = λ g h offset count bytes k ok. draws_silent 0 g;
         writes = λ g h offset new y k ok. draws_silent 0 g;
-        truncates = λ g h size y ok. draws_silent 0 g;
-        ends = λ g h. draws_silent 0 g;
-        closes = λ g h y found. draws_silent 0 g;
+        truncates = λ g h size y k ok. draws_silent 0 g;
+        ends = λ g h k. draws_silent 0 g;
+        closes = λ g h y k found. draws_silent 0 g;
         sees_empty = λ g request h writes sight k is. draws_silent 0 g;
         sees_version = λ g request h writes sight v k is. (refl, le-add_right _ _, le_refl _, le-add_right _ _, tt, tt);
         turns_open = λ g o. draws_silent 0 g;
-        hears_open = λ g o c request answer k awaited. draws_silent 0 g;
+        hears_open = λ g o c request answer takes k awaited. draws_silent 0 g;
         gets = λ g o clouds. (refl, le-add_right _ _, le_refl _, le-add_right _ _, tt, tt);
-        shows = λ g o bytes. draws_silent 0 g;
+        loses = λ g o. draws_silent 0 g;
+        shows = λ g o bytes all. draws_silent 0 g;
         turns_upload = λ g x u. draws_silent 0 g;
-        hears_upload = λ g x u c request answer k new. draws_silent 0 g;
+        hears_upload = λ g x u c request answer k new few. draws_silent 0 g;
         puts = λ g x u clouds k within. (refl, le-add_right _ _, le_refl _, le-add_right _ _, tt, tt);
-        commits = λ g x u enough. draws_step 0 g (On_sessions (Commit x.number u.version)) tt;
-        drops = λ g x. draws_silent 0 g;
+        commits = λ g x u c request answer k new just. draws_step 0 g (On_sessions (Commit x.number u.version)) tt;
+        drops = λ g x why. draws_silent 0 g;
         downs = λ g up k. draws_silent 0 g;
         ups = λ g up none. absurd none;
       }
@@ -179,7 +183,7 @@ module _ {V : Type 0} (s : Setup) (vs : Versions V) (a : ℕ) where
   -- whatever comes to an agent that is up
   module _ (g : Agent V) (up : is_up g.life ≡ true) (given : Given) where
     others_draw : (input : Input V) → has_up input ≡ true → IsInput others input → Draws 1 g (responded s vs a g given input)
-    others_draw input ups k = draws_more g (responded s vs a g given input) (responds s vs a others given (Draws 0) (moves given) g input (up ∙ sym ups) k)
+    others_draw input ups k = draws_more g (responded s vs a g given input) (responds s vs a others given (Draws 0) (moves given) tt g input (up ∙ sym ups) k)
 
     called : (call : Call) → Draws 1 g (call_of a s g call g.waiting)
     called (calls.Create path) = creates g path g.waiting

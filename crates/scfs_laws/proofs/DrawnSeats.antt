@@ -288,12 +288,12 @@ module _ {V : Type 0} (s : Setup) (vs : Versions V) (keeps : CompletionKeeps vs)
     next_state =
         of_event s vs state given e.message IsFine (place_of e.event)
         (record {
-          nothing = λ shown idle same. record { seats = all_stay (subst (Each IsOfAgent) (sym same) (each-map IsIdle IsOfAgent idle_of_agent shown idle)) };
+          nothing = λ shown idle bare same. record { seats = all_stay (subst (Each IsOfAgent) (sym same) (each-map IsIdle IsOfAgent idle_of_agent shown idle)) };
           later = λ ticks same. record { seats = all_stay (subst (Each IsOfAgent) (sym same) tt) };
           gone = λ a seat request found same.
               let quiet : Each IsOfAgent e.lines = subst (Each IsOfAgent) (sym same) (tt, tt) in
               record { seats = set quiet a seat seat found (all_stay quiet a seat found) };
-          missed = λ a seat oldest rest found is same.
+          missed = λ a seat oldest rest found is away same.
               let quiet : Each IsOfAgent e.lines = subst (Each IsOfAgent) (sym same) (tt, tt) in
               record { seats = set quiet a seat _ found (stays quiet a _ (fewer a seat rest found)) };
           own = λ a seat x found is up. own a seat x found up;

@@ -126,11 +126,11 @@ module _ {V : Type 0} (s : Setup) (vs : Versions V) (keeps : CompletionKeeps vs)
         let now : ℕ = state.clock in
         of_event s vs state (given_of now e) e.message (λ x. e.lines ≡ x.lines → Each Either (live x.state.clock x.state.tree).locks) (place_of e.event)
         (record {
-          nothing = λ shown idle same. old;
+          nothing = λ shown idle bare same. old;
           later = λ ticks same. each-fewer Either (λ (l : Lock). nat_lt now l.until) (λ (l : Lock). nat_lt (now + ticks) l.until)
               (λ l. alive now ticks l.until) state.tree.locks old;
           gone = λ a seat request found same. old;
-          missed = λ a seat oldest rest found is same. old;
+          missed = λ a seat oldest rest found is away same. old;
           own = λ a seat x found place up same. old;
           hears = λ c request answer seat found place message up same. old;
           told = λ a seat oldest rest found is up same. old;

@@ -29,9 +29,8 @@ use Rattle.scfs_laws.proofs.HeldSessions.{held_ended, held_found}
 use Rattle.scfs_laws.proofs.HeldSeats.{latest, IsRow, Between, Seated}
 use Rattle.scfs_laws.proofs.HeldSteps.{all_idle, any_change}
 use Rattle.scfs_laws.proofs.HeldLines.{Does}
-use Rattle.scfs_laws.proofs.HeldDoing.{at, seat_of, refuse_does, not_begun, followed_silent}
-use Rattle.scfs_laws.proofs.HeldCalls.{ended_does}
-use Rattle.scfs_laws.proofs.HeldCloses.{puts_does}
+use Rattle.scfs_laws.proofs.HeldDoing.{at, seat_of, not_begun, followed_silent}
+use Rattle.scfs_laws.proofs.HeldMoves.{plain_does, puts_does}
 
 -- whether the lines of a reaction answer a close
 abbrev pub answers_close : (s : Setup) → (a : ℕ) → Reaction Row → Bool
@@ -80,8 +79,8 @@ module _ (s : Setup) (event : Event) (a : ℕ) (versions : List Version_seen) (y
       let i : ℕ = y.incarnation in
       let close : Close_seen = record { upload = upload_no a i ((latest y).upload.count + 1); bytes = y.bytes h } in
       let same : latest (with_close a h y) ≡ close = ap (λ b. cond b close (latest y)) (eq-eqb i i refl) in
-      let counted = ap (λ (u : UploadNo). upload_no a i (u.count + 1)) (sym is.upload) in
-      let named = ap (λ n. upload_no a n (agent.uploads + 1)) (sym is.incarnation) ∙ counted in
+      let counted = ap (λ (u : UploadNo). upload_no a i (u.count + 1)) (sym is.based.upload) in
+      let named = ap (λ n. upload_no a n (agent.uploads + 1)) (sym is.based.same) ∙ counted in
       let none = all_idle s a versions (latest y) close None (Some For_close) [] [] asked replied (λ e. e) (λ e. e) is.steps in
       let puts = next_asked a (record agent { uploads = agent.uploads + 1 }) (below (clouds_of s)) in
       let u : Upload Row = record {
@@ -89,18 +88,20 @@ module _ (s : Setup) (event : Event) (a : ℕ) (versions : List Version_seen) (y
         storing = record { name = upload_name number; unit = unit; puts = [] ++ puts; acked = []; turns = 0 };
       } in
       let x : Closed Row = record { number = h; session = z; upload = Some u } in
-      puts_does s event a versions (with_close a h y) asked replied
+      puts_does s event a versions replied (with_close a h y) asked
       (record agent { sessions = ended agent.sessions h; waiting = Some For_close; closed = x ∷ []; uploads = agent.uploads + 1 })
       (below (clouds_of s))
       (upload_name number) (object_at unit)
       (record {
-        sessions = held_ended y.bytes agent.sessions h is.sessions;
-        incarnation = is.incarnation;
-        ahead = λ j above.
-            ap (λ b. cond b close (y.close j)) (eqb-apart j i (λ e. omega (arith, e, above))) ∙ is.ahead j above;
-        upload = ap (λ (c : Close_seen). c.upload) same ∙ sym counted;
+        based = record {
+          held = held_ended y.bytes agent.sessions h is.based.held;
+          same = is.based.same;
+          ahead = λ j above.
+              ap (λ b. cond b close (y.close j)) (eqb-apart j i (λ e. omega (arith, e, above))) ∙ is.based.ahead j above;
+          upload = ap (λ (c : Close_seen). c.upload) same ∙ sym counted;
+        };
         waits = subst (λ c. IsRow s u.version c) (sym same)
-            (row_is s z number close.upload (y.bytes h) named (held_found y.bytes agent.sessions h z there is.sessions));
+            (row_is s z number close.upload (y.bytes h) named (held_found y.bytes agent.sessions h z there is.based.held));
         steps = subst (λ c. Between s a versions c (Some For_close) (x ∷ []) asked replied) (sym same)
             (any_change s a versions (latest y) close None (Some For_close) [] (x ∷ []) asked replied none is.steps);
       })
@@ -110,7 +111,7 @@ module _ (s : Setup) (event : Event) (a : ℕ) (versions : List Version_seen) (y
       → Closing (followed (refuse agent why) (λ next. next_begun s rows a next next.closed))
   refused_closing agent why is still =
       subst Closing (sym (followed_silent (refuse agent why) (λ next. next_begun s rows a next next.closed) still))
-      (inl (refl, refuse_does s event a versions y asked replied agent why is))
+      (inl (refl, plain_does s event a versions replied (says.Refuses why) tt agent y asked is))
 
   ends_closing : (agent : Agent Row) (z : Session) (writes : Bool) → session_of agent.sessions h ≡ Some z
       → Sits (at agent None [])
@@ -125,7 +126,12 @@ module _ (s : Setup) (event : Event) (a : ℕ) (versions : List Version_seen) (y
         record { seated = does.seated; says = does.says; sent = does.sent },
       )
   ends_closing agent z false there is =
-      let does = ended_does s a versions y asked replied event agent h is in
+      let held = held_ended y.bytes agent.sessions h is.based.held in
+      let does = plain_does s event a versions replied (says.Ended h) tt (left agent) y asked (record {
+        based = record { held = held; same = is.based.same; ahead = is.based.ahead; upload = is.based.upload };
+        waits = is.waits;
+        steps = is.steps;
+      }) in
       inl (refl, record { seated = does.seated; says = does.says; sent = does.sent })
 
   close_closing : (agent : Agent Row) (there : Option Session) → session_of agent.sessions h ≡ there

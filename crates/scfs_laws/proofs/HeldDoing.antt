@@ -1,27 +1,28 @@
--- What an agent does, by the forms of its reactions, leaves what is seen tied to its seat.
-use Rattle.std.proofs.Common.{◌≡◌, ℕ, ◌+◌, ◌≤◌, List, [], ◌∷◌, ◌++◌, map, fold, refl, sym, ap, ◌∙◌, subst, append-nil, append_assoc, Bool, true, false, cond, Option, Some, None, Result, Ok, Err}
+-- Seats, reactions of which one is silent, requests to clouds, and the bytes of sessions, where what is seen is tied to a seat.
+use Rattle.std.proofs.Common.{◌≡◌, ℕ, ◌+◌, List, [], ◌∷◌, ◌++◌, map, fold, refl, sym, ap, ◌∙◌, subst, append-nil, append_assoc, Bool, true, false, cond, Option, Some, None, Result, Ok, Err, nat_lt}
 use Rattle.scfs_base.specs.declared.cloud.CloudRequest.{CloudRequest}
-use Rattle.scfs_base.specs.declared.cloud.CloudRequest.TheVariants as requests
 use Rattle.scfs_policy.specs.declared.rank.RankFacts.{RankFacts}
 use Rattle.scfs_schedule.specs.declared.types.Event.{Event}
 use Rattle.scfs_schedule.specs.declared.types.Refusal.{Refusal}
-use Rattle.scfs_lease.specs.declared.leases.Lease.{Lease}
-use Rattle.scfs_model.specs.Lives.{Life}
 use Rattle.scfs_model.specs.Format.{Setup}
 use Rattle.scfs_model.specs.Given.{Given}
 use Rattle.scfs_model.specs.Asked.{Asked, asked_of}
-use Rattle.scfs_model.specs.Steps.{Step}
 use Rattle.scfs_model.specs.Sayings.{Saying}
-use Rattle.scfs_model.specs.Agents.{Waiting, For_step, For_clouds, For_close, Closed, Upload, Request, Agent, Sent, Reaction, Input, silent, followed, next_request, asks_step}
-use Rattle.scfs_model.specs.Calls.{refuse, unless_refused}
+use Rattle.scfs_model.specs.Agents.{Waiting, For_step, For_clouds, For_close, Closed, Upload, Request, Agent, Sent, Reaction, Input, silent, followed}
 use Rattle.scfs_model.specs.Layers.{Row, rows}
 use Rattle.scfs_model.specs.Reactions.{begun, next_begun, responded, reacted}
 use Rattle.scfs_model.specs.States.{Reply, Seat}
-use Rattle.scfs_laws.specs.Held.{Close_seen, Version_seen, Agent_seen, with_reading, with_get}
+use Rattle.scfs_laws.specs.Held.{Close_seen, Version_seen, Agent_seen, with_reading, with_get, set_at}
 use Rattle.scfs_laws.proofs.Lists.{Each}
-use Rattle.scfs_laws.proofs.HeldSeats.{latest, IsEmpty, Waits, Closes, Uploads, Fits, busy, busy_asked, busy_replied, Seated}
-use Rattle.scfs_laws.proofs.HeldSteps.{none_asked, one_asked}
-use Rattle.scfs_laws.proofs.HeldLines.{after_sent, IsOwn, after_doing, Does}
+use Rattle.scfs_laws.proofs.HeldSeats.{latest, IsEmpty, Waits, Closes, Uploads}
+use Rattle.scfs_laws.proofs.HeldLines.{after_sent, IsOwn, after_doing, Does, set_here, set_there}
+use Rattle.scfs_session.specs.declared.contents.TheConstants.{CONTENTS_LIMIT}
+use Rattle.scfs_session.specs.declared.sessions.Session.{Session}
+use Rattle.scfs_session.specs.Contents.{bytes_from}
+use Rattle.scfs_session.specs.Open.{read_answer, change_refusal, unless, changed}
+use Rattle.scfs_laws.proofs.HeldSessions.{IsChangedAt}
+use Rattle.scfs_base.specs.declared.cloud.CloudRequest.TheVariants as requests
+use Rattle.scfs_schedule.specs.declared.types.Refusal.TheVariants as refusals
 
 -- an agent that waits for this, with these closed sessions
 abbrev pub at : Agent Row → Option (Waiting Row) → List (Closed Row) → Agent Row
@@ -30,64 +31,6 @@ at agent waiting closed = record agent { waiting = waiting; closed = closed }
 -- the seat of an agent
 abbrev pub seat_of : Agent Row → List (Request Row) → List (Reply Row) → Seat Row
 seat_of agent asked replied = record { agent = agent; asked = asked; replied = replied }
-
-module _ (s : Setup) (event : Event) (a : ℕ) (versions : List Version_seen) (y : Agent_seen) (asked : List (Request Row))
-    (replied : List (Reply Row)) where
-  -- what is seen is tied to the seat of the agent when it is this, and after a reaction
-  abbrev pub Sits : Agent Row → Type 0
-  Sits agent = Seated s versions a y (seat_of agent asked replied)
-
-  abbrev pub Doing : Reaction Row → Type 0
-  Doing r = Does s event a versions y asked replied r
-
-  pub says_none : (agent : Agent Row) → Sits agent → Seated s versions a y (seat_of agent (asked ++ []) replied)
-  says_none agent is = record {
-    sessions = is.sessions;
-    incarnation = is.incarnation;
-    ahead = is.ahead;
-    upload = is.upload;
-    waits = is.waits;
-    steps = none_asked s a versions (latest y) agent.waiting agent.closed asked replied is.steps;
-  }
-
-  -- an agent with another life and other leases
-  pub otherwise : (agent : Agent Row) (life : Life) (leases : List Lease) → Sits agent → Sits (record agent { life = life; leases = leases })
-  otherwise agent life leases is =
-      record { sessions = is.sessions; incarnation = is.incarnation; ahead = is.ahead; upload = is.upload; waits = is.waits; steps = is.steps }
-
-  pub silent_does : (agent : Agent Row) → Sits agent → Doing (silent agent)
-  silent_does agent is = record { seated = says_none agent is; says = tt; sent = tt }
-
-  pub refuse_does : (agent : Agent Row) (why : Refusal) → Sits agent
-      → Doing (refuse agent why)
-  refuse_does agent why is = record { seated = says_none agent is; says = (tt, tt); sent = tt }
-
-  -- a step is asked
-  pub asks_does : (agent : Agent Row) (step : Step Row) → Sits agent
-      → busy step + (busy_asked asked + busy_replied replied) ≤ 1 → Fits s (latest y) agent.waiting agent.closed step
-      → Doing (asks_step a agent step)
-  asks_does agent step is few fits = record {
-    seated = record {
-      sessions = is.sessions;
-      incarnation = is.incarnation;
-      ahead = is.ahead;
-      upload = is.upload;
-      waits = is.waits;
-      steps = one_asked s a versions (latest y) agent.waiting agent.closed asked replied (next_request a agent step) few (refl, fits) is.steps;
-    };
-    says = tt;
-    sent = tt;
-  }
-
-  pub unless_does : {X : Type 0} (agent : Agent Row) (r : Result X Refusal) (on : X → Reaction Row) → Sits agent
-      → ((x : X) → r ≡ Ok x → Doing (on x)) → Doing (unless_refused agent r on)
-  unless_does agent (Ok x) on is each = each x refl
-  unless_does agent (Err why) on is each = refuse_does agent why is
-
-  pub either_does : (b : Bool) (first second : Reaction Row) → Doing first → Doing second
-      → Doing (cond b first second)
-  either_does true first second h k = h
-  either_does false first second h k = k
 
 -- one after the other, where the second is silent
 module _ {V : Type 0} where
@@ -159,3 +102,47 @@ pub asked_own : (a incarnation drawn : ℕ) (clouds : List ℕ) (body : ℕ → 
     (map (λ (x : Asked). record { number = x.request; cloud = x.cloud; body = body x.cloud }) (asked_of a incarnation drawn clouds))
 asked_own a incarnation drawn [] body = tt
 asked_own a incarnation drawn (c ∷ rest) body = (refl, asked_own a incarnation (drawn + 1) rest body)
+
+-- a change of one session's bytes
+pub changes_at : (bytes : ℕ → List ℕ) (h : ℕ) (new contents : List ℕ) → new ≡ contents → IsChangedAt bytes (set_at bytes h new) h contents
+changes_at bytes h new contents same = record { here = set_here bytes h new ∙ same; others = λ k apart. set_there bytes h k new apart }
+
+-- a result
+
+abbrev refused : {X : Type 0} → Refusal → Result X Refusal
+refused why = Err why
+
+abbrev accepted : {X : Type 0} → X → Result X Refusal
+accepted x = Ok x
+
+none_accepted : {X : Type 0} (why : Refusal) (x : X) → refused {X = X} why ≡ Ok x → ⊥
+none_accepted why x e = cc
+
+same_accepted : {X : Type 0} (x z : X) → accepted x ≡ Ok z → x ≡ z
+same_accepted x z e = cc
+
+-- a read shows bytes of the session
+shown_within : (bytes : List ℕ) (contents : List ℕ) (offset count : ℕ) (shown : List ℕ) (b : Bool) → bytes ≡ contents
+    → cond b (refused refusals.TooLong) (accepted (bytes_from contents offset count)) ≡ Ok shown → shown ≡ bytes_from bytes offset count
+shown_within bytes contents offset count shown true held is = absurd (none_accepted refusals.TooLong shown is)
+shown_within bytes contents offset count shown false held is =
+    sym (same_accepted (bytes_from contents offset count) shown is) ∙ ap (λ l. bytes_from l offset count) (sym held)
+
+pub shown_of : (bytes : ℕ → List ℕ) (h offset count : ℕ) (there : Option Session) (shown : List ℕ)
+    → ((y : Session) → there ≡ Some y → bytes h ≡ y.contents)
+    → read_answer there offset count ≡ Ok shown → shown ≡ bytes_from (bytes h) offset count
+shown_of bytes h offset count None shown held is = absurd (none_accepted refusals.BadHandle shown is)
+shown_of bytes h offset count (Some y) shown held is =
+    shown_within (bytes h) y.contents offset count shown (nat_lt CONTENTS_LIMIT count) (held y refl) is
+
+-- a change is of a session that is there
+changed_within : (y next : Session) (change : List ℕ → List ℕ) (refusal : Option Refusal)
+    → unless refusal (record y { contents = change y.contents }) ≡ Ok next → next.contents ≡ change y.contents
+changed_within y next change None is = sym (ap (λ (z : Session). z.contents) (same_accepted (record y { contents = change y.contents }) next is))
+changed_within y next change (Some why) is = absurd (none_accepted why next is)
+
+pub changed_of : (bytes : ℕ → List ℕ) (h end : ℕ) (change : List ℕ → List ℕ) (there : Option Session) (next : Session)
+    → ((y : Session) → there ≡ Some y → bytes h ≡ y.contents) → changed there end change ≡ Ok next → change (bytes h) ≡ next.contents
+changed_of bytes h end change None next held is = absurd (none_accepted refusals.BadHandle next is)
+changed_of bytes h end change (Some y) next held is =
+    ap change (held y refl) ∙ sym (changed_within y next change (change_refusal y end) is)

@@ -1,5 +1,5 @@
 -- Each event leaves what is seen tied to the machine's state.
-use Rattle.std.proofs.Common.{◌≡◌, ℕ, ◌+◌, List, [], ◌∷◌, ◌++◌, map, fold, refl, sym, ap, ◌∙◌, subst, inl, inr, slice_get, cond, eqb, Bool, true, false, Option, Some, None}
+use Rattle.std.proofs.Common.{◌≡◌, ℕ, ◌+◌, List, [], ◌∷◌, ◌++◌, map, fold, refl, sym, ap, ◌∙◌, subst, inl, inr, cond, eqb, true, false, Option}
 use Rattle.std.specs.Prelude.{◌==◌}
 use Rattle.scfs_base.specs.declared.naming.RequestNo.{RequestNo}
 use Rattle.scfs_base.specs.declared.cloud.CloudRequest.{CloudRequest}
@@ -10,26 +10,24 @@ use Rattle.scfs_schedule.specs.declared.types.Event.{Event}
 use Rattle.scfs_schedule.specs.declared.types.Event.TheVariants as events
 use Rattle.scfs_schedule.specs.declared.types.Line.{Line}
 use Rattle.scfs_session.specs.Contents.{bytes_from}
-use Rattle.scfs_model.specs.Lists.{if_some}
 use Rattle.scfs_model.specs.Names.{upload_no}
 use Rattle.scfs_model.specs.Format.{Setup}
 use Rattle.scfs_model.specs.History.{Message}
 use Rattle.scfs_model.specs.Given.{Given}
 use Rattle.scfs_model.specs.Sayings.{Saying, Reads_out, said_by}
-use Rattle.scfs_model.specs.Agents.{Sent, Input, Calls, Reaction}
+use Rattle.scfs_model.specs.Agents.{Request, Sent, Input, Calls, Reaction}
 use Rattle.scfs_model.specs.Reactions.{reacted}
 use Rattle.scfs_model.specs.Layers.{Row, rows}
-use Rattle.scfs_model.specs.States.{Reply, Seat, State, Effect, request_line, leaving, at_seat, did, comes, comes_if, at_agent}
-use Rattle.scfs_model.specs.Events.{Call_comes}
+use Rattle.scfs_model.specs.States.{Reply, Seat, State, Effect, request_line, did, comes}
 use Rattle.scfs_model.specs.Lives.{is_up}
 use Rattle.scfs_laws.specs.Held.{Close_seen, Agent_seen, Seen, of_agent, seen_line, with_close, seen_event}
 use Rattle.scfs_laws.proofs.Lists.{eqb-comm, Each, each-append}
 use Rattle.scfs_laws.proofs.HeldStays.{IsUsual, reacted_stays}
-use Rattle.scfs_laws.proofs.HeldMixed.{Mixed, StrayReply, HereReply, Stands}
-use Rattle.scfs_laws.proofs.HeldKeeping.{doing_close, reacted_stands}
+use Rattle.scfs_laws.proofs.HeldStands.{asks_there, replies_there, IsPast, Stands, doing_close, reacted_stands}
 use Rattle.scfs_laws.proofs.HeldLines.{Becomes, of_agent_becomes, nothing_becomes, then_becomes, after_doing, IsSaid, IsOwn, lines_become, Does}
 use Rattle.scfs_laws.proofs.HeldDoing.{reacted_does}
-use Rattle.scfs_laws.proofs.HeldCalls.{IsNoClose, call_does}
+use Rattle.scfs_laws.proofs.HeldMoves.{IsNoClose}
+use Rattle.scfs_laws.proofs.HeldInputs.{call_does}
 use Rattle.scfs_laws.proofs.HeldClosing.{closing}
 use Rattle.scfs_laws.proofs.HeldVersions.{Tied}
 use Rattle.scfs_laws.proofs.HeldSpace.{IsSeenIn, IsShown, Keeps, get_cases}
@@ -94,56 +92,38 @@ abbrev pub bytes_of : Seen → ℕ → ℕ → List ℕ
 bytes_of x a = (x.agents a).bytes
 
 module _ (s : Setup) (message : Option Message) (x : Seen) (state : State Row) (given : Given) (is : IsSeenIn s x state) where
-  -- an agent that does something of its own accord, where these replies are there of those that are left
-  pub own_keeps : (event : Event) (a : ℕ) (seat : Seat Row) (mine : Stands s x.versions a (x.agents a) seat) (replied all : List (Reply Row))
-      (input : Input Row) → is_up seat.agent.life ≡ true → IsUsual s a input
-      → Mixed (StrayReply s a (x.agents a) seat.agent) (HereReply s a (x.agents a) seat.agent) replied all
-      → Does s event a x.versions (x.agents a) mine.asked replied (reacted s rows a seat.agent given input)
+  -- an agent that does something of its own accord, where these replies are left
+  pub own_keeps : (event : Event) (a : ℕ) (seat : Seat Row) (mine : Stands s x.versions a (x.agents a) seat) (all : List (Reply Row))
+      (input : Input Row) → is_up seat.agent.life ≡ true → IsUsual s a input → Each (IsPast seat.agent) all
+      → Does s event a x.versions (x.agents a) (asks_there seat.agent seat.asked) (replies_there seat.agent all) (reacted s rows a seat.agent given input)
       → Keeps s event message (bytes_of x) x (comes s rows state a given [] input (record seat { replied = all }))
-  own_keeps event a seat mine replied all input up usual replies does =
+  own_keeps event a seat mine all input up usual past does =
       let r : Reaction Row = reacted s rows a seat.agent given input in
       let y : Agent_seen = x.agents a in
       let z : Agent_seen = after_doing s event x.versions r.says r.sent y in
       did_keeps s event message (bytes_of x) x state x a y y (record seat { replied = all }) [] r is
       (nothing_becomes a x) (nothing_becomes a x) refl tt does.says does.sent
       (reacted_stands s a x.versions y z seat r mine up (reacted_stays s a seat.agent up given input usual)
-      (λ i e. ap (λ (close : ℕ → Close_seen). close i) (sym (doing_close s event x.versions r.says r.sent y))) replied all replies does.seated)
+      (λ i e. ap (λ (close : ℕ → Close_seen). close i) (sym (doing_close s event x.versions r.says r.sent y))) all past does.seated)
 
-  -- an event that comes to a seat, if that is there
-  pub at_seat_keeps : (event : Event) (a : ℕ) (on : Seat Row → Effect Row)
-      → ((seat : Seat Row) → Stands s x.versions a (x.agents a) seat → Keeps s event message (bytes_of x) x (on seat))
-      → Keeps s event message (bytes_of x) x (at_seat state a on)
-  at_seat_keeps event a on each = by (slice_get state.seats a) (is.seats a)
-    where
-      by : (o : Option (Seat Row)) → ((m : Seat Row) → o ≡ Some m → Stands s x.versions a (x.agents a) m)
-          → Keeps s event message (bytes_of x) x (if_some o (leaving state []) on)
-      by None seated = record { seen = is; shown = tt }
-      by (Some seat) seated = each seat (seated seat refl)
-
-  -- an input that comes where the agent is so
-  pub if_keeps : (event : Event) (a : ℕ) (can : Bool) (input : Input Row) (seat : Seat Row)
-      → (can ≡ true → Keeps s event message (bytes_of x) x (comes s rows state a given [] input seat))
-      → Keeps s event message (bytes_of x) x (comes_if s rows can state a given input seat)
-  if_keeps event a true input seat each = each refl
-  if_keeps event a false input seat each = record { seen = is; shown = (tt, tt) }
-
-  pub call_keeps : (a : ℕ) (call : Call) → IsNoClose call
-      → Keeps s (events.Call a call) message (bytes_of x) x (at_seat state a (at_agent s rows state given a (Call_comes call)))
-  call_keeps a call kind =
-      at_seat_keeps (events.Call a call) a (at_agent s rows state given a (Call_comes call)) (λ seat mine.
-      if_keeps (events.Call a call) a (is_up seat.agent.life) (Calls call) seat (λ up.
-      own_keeps (events.Call a call) a seat mine mine.replied seat.replied (Calls call) up tt mine.replies
-      (reacted_does s (events.Call a call) a x.versions (x.agents a) mine.asked mine.replied seat.agent given (Calls call)
-      (call_does s a x.versions (x.agents a) mine.asked mine.replied seat.agent seat.agent.waiting seat.agent.closed call kind mine.seated))))
+  pub call_keeps : (a : ℕ) (call : Call) → IsNoClose call → (seat : Seat Row) → Stands s x.versions a (x.agents a) seat
+      → is_up seat.agent.life ≡ true
+      → Keeps s (events.Call a call) message (bytes_of x) x (comes s rows state a given [] (Calls call) seat)
+  call_keeps a call kind seat mine up =
+      let asked : List (Request Row) = asks_there seat.agent seat.asked in
+      let replied : List (Reply Row) = replies_there seat.agent seat.replied in
+      own_keeps (events.Call a call) a seat mine seat.replied (Calls call) up tt mine.replies
+      (reacted_does s (events.Call a call) a x.versions (x.agents a) asked replied seat.agent given (Calls call)
+      (call_does s a x.versions (x.agents a) asked replied seat.agent given call kind mine.seated))
 
   -- a close
   pub close_found : (a h : ℕ) (seat : Seat Row) → Stands s x.versions a (x.agents a) seat → is_up seat.agent.life ≡ true
       → let event = events.Call a (calls.Close h) in let e = comes s rows state a given [] (Calls (calls.Close h)) seat in
       Keeps s event message (bytes_of x) (seen_event event e.lines x) e
   close_found a h seat mine up =
-      elim (closing s event a x.versions y mine.asked mine.replied given h seat.agent seat.agent.waiting seat.agent.closed mine.seated) [
+      elim (closing s event a x.versions y (asks_there seat.agent seat.asked) (replies_there seat.agent seat.replied) given h seat.agent seat.agent.waiting seat.agent.closed mine.seated) [
         | inl k ↦ subst (λ start. Keeps s event message (bytes_of x) start e) (sym (ap (λ b. cond b x (of_agent a (with_close a h) x)) k.0))
-            (own_keeps event a seat mine mine.replied seat.replied (Calls (calls.Close h)) up tt mine.replies k.1)
+            (own_keeps event a seat mine seat.replied (Calls (calls.Close h)) up tt mine.replies k.1)
         | inr k ↦ subst (λ start. Keeps s event message (bytes_of x) start e) (sym (ap (λ b. cond b x (of_agent a (with_close a h) x)) k.0))
             (did_keeps s event message (bytes_of x) x state (of_agent a (with_close a h) x) a (with_close a h y)
             (with_close a h y) seat [] r is closed
@@ -151,7 +131,7 @@ module _ (s : Setup) (message : Option Message) (x : Seen) (state : State Row) (
             (reacted_stands s a x.versions y (after_doing s event x.versions r.says r.sent (with_close a h y)) seat r mine up
             (reacted_stays s a seat.agent up given (Calls (calls.Close h)) tt)
             (λ i e. other i e ∙ ap (λ (close : ℕ → Close_seen). close i) (sym (doing_close s event x.versions r.says r.sent (with_close a h y))))
-            mine.replied seat.replied mine.replies k.1.seated))
+            seat.replied mine.replies k.1.seated))
       ]
     where
       event : Event
@@ -175,4 +155,4 @@ module _ (s : Setup) (message : Option Message) (x : Seen) (state : State Row) (
       -- a close is one of its incarnation
       other : (i : ℕ) → (seat.agent.incarnation == i) ≡ false → y.close i ≡ (with_close a h y).close i
       other i e =
-          sym (ap (λ b. cond b new (y.close i)) (eqb-comm i y.incarnation ∙ ap (λ n. eqb n i) mine.seated.incarnation ∙ e))
+          sym (ap (λ b. cond b new (y.close i)) (eqb-comm i y.incarnation ∙ ap (λ n. eqb n i) mine.seated.based.same ∙ e))

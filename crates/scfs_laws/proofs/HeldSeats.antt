@@ -2,6 +2,7 @@
 use Rattle.std.proofs.Common.{◌≡◌, ℕ, ◌+◌, ◌<◌, ◌≤◌, List, [], ◌∷◌, length, true, find, Option, Some, None, Result, Ok, Err}
 use Rattle.scfs_base.specs.declared.naming.FileId.{FileId}
 use Rattle.scfs_schedule.specs.declared.types.Refusal.{Refusal}
+use Rattle.scfs_session.specs.Open.{OpenSessions}
 use Rattle.scfs_model.specs.Names.{upload_no}
 use Rattle.scfs_model.specs.Format.{Setup, sealed}
 use Rattle.scfs_model.specs.Reading.{Reading}
@@ -131,11 +132,15 @@ module _ (s : Setup) (a : ℕ) (versions : List Version_seen) (close : Close_see
     pub replies : Each ReplyFits replied
     pub alone : busy_asked asked + busy_replied replied ≤ 1
 
--- what is seen of agent a is so at its seat
+-- what is seen of agent a is so of its sessions, and of the incarnation and the uploads that it drew
+pub record Based (a : ℕ) (bytes : (h : ℕ) → List ℕ) (i : ℕ) (close : (i : ℕ) → Close_seen) (sessions : OpenSessions) (incarnation uploads : ℕ) : Type 0 where
+  pub held : AreHeld bytes sessions
+  pub same : i ≡ incarnation
+  pub ahead : (j : ℕ) → i < j → close j ≡ no_close a j
+  pub upload : (close i).upload ≡ upload_no a i uploads
+
+-- and of what it waits for, and of the steps between it and the space
 pub record Seated (s : Setup) (versions : List Version_seen) (a : ℕ) (y : Agent_seen) (seat : Seat Row) : Type 0 where
-  pub sessions : AreHeld y.bytes seat.agent.sessions
-  pub incarnation : y.incarnation ≡ seat.agent.incarnation
-  pub ahead : (i : ℕ) → y.incarnation < i → y.close i ≡ no_close a i
-  pub upload : (latest y).upload ≡ upload_no a y.incarnation seat.agent.uploads
+  pub based : Based a y.bytes y.incarnation y.close seat.agent.sessions seat.agent.incarnation seat.agent.uploads
   pub waits : Waits s y seat.agent.waiting seat.agent.closed
   pub steps : Between s a versions (latest y) seat.agent.waiting seat.agent.closed seat.asked seat.replied

@@ -1,5 +1,5 @@
 -- What the space serves leaves what is seen tied to the machine's state.
-use Rattle.std.proofs.Common.{◌≡◌, ℕ, zero, suc, ◌+◌, ◌-◌, ◌≢◌, List, [], ◌∷◌, ◌++◌, refl, sym, ap, subst, arith, ◌⊎◌, inl, inr, fold, slice_get, slice_set, Option, Some, None, Ok, Err}
+use Rattle.std.proofs.Common.{◌≡◌, ℕ, zero, suc, ◌+◌, ◌-◌, ◌≢◌, List, [], ◌∷◌, ◌++◌, refl, sym, ap, subst, ◌⊎◌, inl, inr, fold, slice_get, slice_set, Option, Some, None, Ok, Err}
 use Rattle.scfs_base.specs.declared.naming.RequestNo.{RequestNo}
 use Rattle.scfs_schedule.specs.declared.types.Call.TheVariants as calls
 use Rattle.scfs_schedule.specs.declared.types.Event.{Event}
@@ -17,14 +17,13 @@ use Rattle.scfs_model.specs.SessionSteps.{Open_read, Open_write, Commit, Sees, L
 use Rattle.scfs_model.specs.Steps.{Step, On_names, On_locks, On_sessions, Outcome, Of_names, Of_locks, Of_sessions, Served, after_ok, line_of, served, served_line}
 use Rattle.scfs_model.specs.Layers.{Row, rows}
 use Rattle.scfs_model.specs.Agents.{Agent, Request}
-use Rattle.scfs_model.specs.States.{Reply, Seat, State, Effect, leaving, with_seat, serves, postpones}
-use Rattle.scfs_laws.specs.Held.{Version_seen, Agent_seen, Seen, seen_line}
-use Rattle.scfs_laws.proofs.Lists.{Each, each-append}
-use Rattle.scfs_laws.proofs.HeldSeats.{IsRow, latest, OutcomeFits, RequestFits, step_of, Seated}
-use Rattle.scfs_laws.proofs.HeldSteps.{asked_append}
+use Rattle.scfs_model.specs.States.{Reply, Seat, State, Effect, leaving, with_seat, serves}
+use Rattle.scfs_laws.specs.Held.{Version_seen, Seen, seen_line}
+use Rattle.scfs_laws.proofs.Lists.{Each}
+use Rattle.scfs_laws.proofs.HeldSeats.{IsRow, OutcomeFits, step_of}
 use Rattle.scfs_laws.proofs.HeldDoing.{seat_of}
 use Rattle.scfs_laws.proofs.HeldVersions.{Tied, tied_append, tied_found}
-use Rattle.scfs_laws.proofs.HeldMixed.{StrayRequest, HereRequest, CommitRow, Stands, sees_more, After, after_of, one_stray, more_there}
+use Rattle.scfs_laws.proofs.HeldStands.{CommitRow, Stands, sees_more, served_stands, moved_stands}
 
 -- what is seen is so in the machine's state
 pub record IsSeenIn (s : Setup) (x : Seen) (state : State Row) : Type 0 where
@@ -83,14 +82,14 @@ module _ (s : Setup) (event : Event) (message : Option Message) (bytes : ℕ →
   serves_still : (agent : Agent Row) (oldest : Request Row) (rest : List (Request Row)) (replied : List (Reply Row)) (o : Outcome Row)
       (tree : Tree Row) (line : Line)
       → seen_line s event message x line ≡ x → IsShown event bytes line → step_of o ≡ oldest.step → OutcomeFits s x.versions o
-      → tree.versions ≡ state.tree.versions → After s a x.versions (x.agents a) agent oldest rest replied → IsSeenIn s x state
+      → tree.versions ≡ state.tree.versions → Stands s x.versions a (x.agents a) (seat_of agent (oldest ∷ rest) replied) → IsSeenIn s x state
       → Keeps s event message bytes x (leaving (with_seat (record state { tree = tree }) a
       (seat_of agent rest (replied ++ (record { number = oldest.number; outcome = o }) ∷ []))) (line ∷ []))
   serves_still agent oldest rest replied o tree line still shown same fits versions mine is = record {
     seen = subst (λ x. IsSeenIn s x
         (with_seat (record state { tree = tree }) a (seat_of agent rest (replied ++ (record { number = oldest.number; outcome = o }) ∷ []))))
         (sym still) (seat_set (seat_of agent rest (replied ++ (record { number = oldest.number; outcome = o }) ∷ []))
-        (mine.2 o same fits) is tree versions);
+        (served_stands s a x.versions (x.agents a) agent oldest rest replied o same fits mine) is tree versions);
     shown = (shown, tt);
   }
 
@@ -104,7 +103,7 @@ module _ (s : Setup) (event : Event) (message : Option Message) (bytes : ℕ →
 
   names_served : (agent : Agent Row) (oldest : Request Row) (rest : List (Request Row)) (replied : List (Reply Row)) (step : _) (tree : Tree Row)
       (r : OrRefusal Name_outcome) → On_names step ≡ oldest.step → tree.versions ≡ state.tree.versions
-      → After s a x.versions (x.agents a) agent oldest rest replied → IsSeenIn s x state
+      → Stands s x.versions a (x.agents a) (seat_of agent (oldest ∷ rest) replied) → IsSeenIn s x state
       → Keeps s event message bytes x (after_step agent oldest.number rest replied
       (record { outcome = Of_names step r; tree = record tree { nodes = after_ok tree.nodes (nodes_after tree.nodes) r } }))
   names_served agent oldest rest replied step tree (Ok (Makes n)) same versions mine is =
@@ -118,7 +117,7 @@ module _ (s : Setup) (event : Event) (message : Option Message) (bytes : ℕ →
   reads_served : (agent : Agent Row) (oldest : Request Row) (rest : List (Request Row)) (replied : List (Reply Row)) (names : List (List ℕ)) (h : ℕ)
       (tree : Tree Row)
       (r : OrRefusal Node) → On_sessions (Open_read names h) ≡ oldest.step → tree.versions ≡ state.tree.versions
-      → After s a x.versions (x.agents a) agent oldest rest replied → IsSeenIn s x state
+      → Stands s x.versions a (x.agents a) (seat_of agent (oldest ∷ rest) replied) → IsSeenIn s x state
       → let o = on_ok (λ n. Sees (sight_of rows tree n)) r in
       Keeps s event message bytes x (after_step agent oldest.number rest replied
       (record { outcome = Of_sessions (Open_read names h) o; tree = after_ok tree (session_after rows tree oldest.number) o }))
@@ -133,7 +132,7 @@ module _ (s : Setup) (event : Event) (message : Option Message) (bytes : ℕ →
   writes_served : (agent : Agent Row) (oldest : Request Row) (rest : List (Request Row)) (replied : List (Reply Row)) (names : List (List ℕ))
       (h until : ℕ) (tree : Tree Row)
       (r : OrRefusal Node) → On_sessions (Open_write names h) ≡ oldest.step → tree.versions ≡ state.tree.versions
-      → After s a x.versions (x.agents a) agent oldest rest replied → IsSeenIn s x state
+      → Stands s x.versions a (x.agents a) (seat_of agent (oldest ∷ rest) replied) → IsSeenIn s x state
       → let o = on_ok (λ (n : Node). Locks (sight_of rows tree n) (new_lock oldest.number h until n.id)) r in
       Keeps s event message bytes x (after_step agent oldest.number rest replied
       (record { outcome = Of_sessions (Open_write names h) o; tree = after_ok tree (session_after rows tree oldest.number) o }))
@@ -151,7 +150,7 @@ module _ (s : Setup) (event : Event) (message : Option Message) (bytes : ℕ →
   commits_served : (agent : Agent Row) (oldest : Request Row) (rest : List (Request Row)) (replied : List (Reply Row)) (h now : ℕ) (v : Row)
       (tree : Tree Row)
       (r : OrRefusal Node) → On_sessions (Commit h v) ≡ oldest.step → tree.versions ≡ state.tree.versions
-      → After s a x.versions (x.agents a) agent oldest rest replied → IsSeenIn s x state
+      → Stands s x.versions a (x.agents a) (seat_of agent (oldest ∷ rest) replied) → IsSeenIn s x state
       → let o = on_ok (λ n. Completes h (rows.completed v now) (with_version rows n (rows.completed v now))) r in
       Keeps s event message bytes x (after_step agent oldest.number rest replied
       (record { outcome = Of_sessions (Commit h v) o; tree = after_ok tree (session_after rows tree oldest.number) o }))
@@ -162,7 +161,7 @@ module _ (s : Setup) (event : Event) (message : Option Message) (bytes : ℕ →
       seats = λ b m found. elim (get_cases state.seats a b seat m found) [
         | inl k ↦ subst (λ k. Stands s (x.versions ++ seen ∷ []) k (x.agents k) m) (sym k.0)
             (subst (Stands s (x.versions ++ seen ∷ []) a (x.agents a)) k.1 (sees_more s a x.versions (x.agents a) (seen ∷ []) seat
-            (mine.2 o same tt)))
+            (served_stands s a x.versions (x.agents a) agent oldest rest replied o same tt mine)))
         | inr k ↦ sees_more s b x.versions (x.agents b) (seen ∷ []) m (is.seats b m k.1)
       ];
     };
@@ -180,9 +179,10 @@ module _ (s : Setup) (event : Event) (message : Option Message) (bytes : ℕ →
 
       row : IsRow s v ((x.agents oldest.number.agent).close oldest.number.incarnation)
       row =
+          let first = mine.asks.0 in
           let own : CommitRow s (x.agents a) oldest.number (On_sessions (Commit h v)) =
-          subst (CommitRow s (x.agents a) oldest.number) (sym same) mine.1 in
-          subst (λ k. IsRow s v ((x.agents k).close oldest.number.incarnation)) (sym mine.0) own
+          subst (CommitRow s (x.agents a) oldest.number) (sym same) first.1 in
+          subst (λ k. IsRow s v ((x.agents k).close oldest.number.incarnation)) (sym first.0) own
   commits_served agent oldest rest replied h now v tree (Err why) same versions mine is =
       serves_still agent oldest rest replied (Of_sessions (Commit h v) (Err why)) tree
       (lines.Refused oldest.number why) refl tt same tt versions mine is
@@ -201,7 +201,7 @@ module _ (s : Setup) (event : Event) (message : Option Message) (bytes : ℕ →
   -- the oldest step is served in a tree
   step_served : (agent : Agent Row) (oldest : Request Row) (step : Step Row) (rest : List (Request Row)) (replied : List (Reply Row))
       (tree : Tree Row) (now lease : ℕ)
-      → step ≡ oldest.step → tree.versions ≡ state.tree.versions → After s a x.versions (x.agents a) agent oldest rest replied
+      → step ≡ oldest.step → tree.versions ≡ state.tree.versions → Stands s x.versions a (x.agents a) (seat_of agent (oldest ∷ rest) replied)
       → IsSeenIn s x state
       → Keeps s event message bytes x (after_step agent oldest.number rest replied (served rows tree now lease oldest.number step))
   step_served agent oldest (On_names z) rest replied tree now lease same versions mine is =
@@ -220,59 +220,17 @@ module _ (s : Setup) (event : Event) (message : Option Message) (bytes : ℕ →
       (still_held (session_lock tree.locks oldest.number v.file h) (node_at tree.nodes v.file (v.number - 1))) same versions mine is
 
   -- the space serves the oldest step at seat a
-  pub serves_keeps : (agent : Agent Row) (asked : List (Request Row)) (replied : List (Reply Row))
-      → Stands s x.versions a (x.agents a) (seat_of agent asked replied) → IsSeenIn s x state
-      → Keeps s event message bytes x (serves s rows state a (seat_of agent asked replied) asked)
-  serves_keeps agent [] replied mine is = record { seen = is; shown = (tt, tt) }
-  serves_keeps agent (oldest ∷ rest) replied mine is =
-      step_served agent oldest oldest.step rest replied (live state.clock state.tree) state.clock s.header.lease refl refl
-      (after_of s a x.versions (x.agents a) agent oldest rest replied mine) is
+  pub serves_keeps : (agent : Agent Row) (oldest : Request Row) (rest : List (Request Row)) (replied : List (Reply Row))
+      → Stands s x.versions a (x.agents a) (seat_of agent (oldest ∷ rest) replied) → IsSeenIn s x state
+      → Keeps s event message bytes x (serves s rows state a (seat_of agent (oldest ∷ rest) replied) (oldest ∷ rest))
+  serves_keeps agent oldest rest replied mine is =
+      step_served agent oldest oldest.step rest replied (live state.clock state.tree) state.clock s.header.lease refl refl mine is
 
   -- the oldest step goes to the back
-  back_seated : (agent : Agent Row) (oldest : Request Row) (rest : List (Request Row)) (replied : List (Reply Row))
-      → Seated s x.versions a (x.agents a) (seat_of agent (oldest ∷ rest) replied)
-      → Seated s x.versions a (x.agents a) (seat_of agent (rest ++ oldest ∷ []) replied)
-  back_seated agent oldest rest replied mine =
-      let few = mine.steps.alone in
-      let sum = asked_append rest (oldest ∷ []) in
-      record {
-        sessions = mine.sessions;
-        incarnation = mine.incarnation;
-        ahead = mine.ahead;
-        upload = mine.upload;
-        waits = mine.waits;
-        steps = record {
-          asks = each-append (RequestFits s a x.versions (latest (x.agents a)) agent.waiting agent.closed) rest (oldest ∷ []) mine.steps.asks.1
-              (mine.steps.asks.0, tt);
-          replies = mine.steps.replies;
-          alone = omega (arith, few, sum);
-        };
-      }
-
-  pub postpones_keeps : (agent : Agent Row) (asked : List (Request Row)) (replied : List (Reply Row))
-      → Stands s x.versions a (x.agents a) (seat_of agent asked replied) → IsSeenIn s x state
-      → Keeps s event message bytes x (postpones state a (seat_of agent asked replied) asked)
-  postpones_keeps agent [] replied mine is = record { seen = is; shown = (tt, tt) }
-  postpones_keeps agent (oldest ∷ rest) replied mine is =
-      let y : Agent_seen = x.agents a in
-      let S : Request Row → Type 0 = StrayRequest s a y agent in
-      let T : Request Row → Type 0 = HereRequest s a y agent in
-      let later : Stands s x.versions a y (seat_of agent (rest ++ oldest ∷ []) replied) = elim mine.asks [
-        | inl k ↦ record {
-          asked = mine.asked;
-          replied = mine.replied;
-          seated = mine.seated;
-          asks = one_stray S T mine.asked rest oldest k.1 k.0;
-          replies = mine.replies;
-          down = mine.down;
-        }
-        | inr k ↦ record {
-          asked = k.0 ++ oldest ∷ [];
-          replied = mine.replied;
-          seated = back_seated agent oldest k.0 mine.replied (subst (λ l. Seated s x.versions a y (seat_of agent l mine.replied)) k.1 mine.seated);
-          asks = more_there S T k.0 rest (oldest ∷ []) k.3 (k.2, tt);
-          replies = mine.replies;
-          down = mine.down;
-        }
-      ] in
-      record { seen = seat_set (seat_of agent (rest ++ oldest ∷ []) replied) later is state.tree refl; shown = tt }
+  pub postpones_keeps : (agent : Agent Row) (oldest : Request Row) (rest : List (Request Row)) (replied : List (Reply Row))
+      → Stands s x.versions a (x.agents a) (seat_of agent (oldest ∷ rest) replied) → IsSeenIn s x state
+      → Keeps s event message bytes x (leaving (with_seat state a (seat_of agent (rest ++ oldest ∷ []) replied)) [])
+  postpones_keeps agent oldest rest replied mine is = record {
+    seen = seat_set (seat_of agent (rest ++ oldest ∷ []) replied) (moved_stands s a x.versions (x.agents a) agent oldest rest replied mine) is state.tree refl;
+    shown = tt;
+  }

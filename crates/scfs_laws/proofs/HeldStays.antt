@@ -30,6 +30,7 @@ module _ (s : Setup) (a : ℕ) where
         turn = Unit {0};
         crash = ⊥;
         start = ⊥;
+        takes = Unit {0};
       }
 
   abbrev pub IsUsual : Input Row → Type 0
@@ -44,31 +45,34 @@ module _ (s : Setup) (a : ℕ) where
   moves given =
       record {
         still = λ g up. (up, refl, tt);
-        follow = λ g first second h k up.
+        follow = λ g first second order h k up.
             let l : Stays g first = h up in
             let n : Stays first.agent second = k l.0 in
             (n.0, n.1 ∙ l.1, each-append _ first.steps second.steps l.2 (each-map _ _ (λ x e. e ∙ l.1) second.steps n.2));
         aside = λ g life leases tallies opens same up. (same ∙ up, refl, tt);
         told = λ g request up. (up, refl, tt);
-        waits = λ g w free up. (up, refl, tt);
+        frees = λ g takes up. (up, refl, tt);
         says_plain = λ g x plain up. (up, refl, tt);
-        asks = λ g step other up. (up, refl, (refl, tt));
+        asks = λ g x up. (up, refl, (refl, tt));
+        steps = λ g step common up. (up, refl, (refl, tt));
         makes = λ g path names k up. (up, refl, (refl, tt));
+        reads = λ g h offset count bytes k ok up. (up, refl, tt);
         writes = λ g h offset new y k ok up. (up, refl, tt);
-        truncates = λ g h size y ok up. (up, refl, tt);
-        ends = λ g h up. (up, refl, tt);
-        closes = λ g h y found up. (up, refl, tt);
+        truncates = λ g h size y k ok up. (up, refl, tt);
+        ends = λ g h k up. (up, refl, tt);
+        closes = λ g h y k found up. (up, refl, tt);
         sees_empty = λ g request h writes sight k is up. (up, refl, tt);
         sees_version = λ g request h writes sight v k is up. (up, refl, tt);
         turns_open = λ g o up. (up, refl, tt);
-        hears_open = λ g o c request answer k awaited up. (up, refl, tt);
+        hears_open = λ g o c request answer takes k awaited up. (up, refl, tt);
         gets = λ g o clouds up. (up, refl, tt);
-        shows = λ g o bytes up. (up, refl, tt);
+        loses = λ g o up. (up, refl, tt);
+        shows = λ g o bytes all up. (up, refl, tt);
         turns_upload = λ g x u up. (up, refl, tt);
-        hears_upload = λ g x u c request answer k new up. (up, refl, tt);
+        hears_upload = λ g x u c request answer k new few up. (up, refl, tt);
         puts = λ g x u clouds k below up. (up, refl, tt);
-        commits = λ g x u enough up. (up, refl, (refl, tt));
-        drops = λ g x up. (up, refl, tt);
+        commits = λ g x u c request answer k new just up. (up, refl, (refl, tt));
+        drops = λ g x why up. (up, refl, tt);
         downs = λ g up k. absurd k;
         ups = λ g up k. absurd k;
       }
@@ -76,7 +80,7 @@ module _ (s : Setup) (a : ℕ) where
   -- whatever this comes to
   module _ (g : Agent Row) (up : is_up g.life ≡ true) (given : Given) where
     whole : (input : Input Row) → has_up input ≡ true → IsInput usual input → Stays g (reacted s rows a g given input)
-    whole input ups k = reacts s rows a usual given StaysUp (moves given) (λ g x up. (up, refl, tt)) g input (up ∙ sym ups) k up
+    whole input ups k = reacts s rows a usual given StaysUp (moves given) (λ g x up. (up, refl, tt)) tt g input (up ∙ sym ups) k up
 
     pub reacted_stays : (input : Input Row) → IsUsual input → Stays g (reacted s rows a g given input)
     reacted_stays (Calls call) k = whole (Calls call) refl tt

@@ -12,9 +12,9 @@ use Rattle.scfs_model.specs.Layers.{Row, rows}
 use Rattle.scfs_model.specs.Agents.{Agent, Request}
 use Rattle.scfs_model.specs.States.{Reply, Seat}
 use Rattle.scfs_laws.specs.Held.{Version_seen, Agent_seen, is_version}
-use Rattle.scfs_laws.proofs.HeldSeats.{latest, IsRow, IsSeen, ResultFits, OutcomeFits, ReplyFits, Fits, busy, step_of, Seated}
+use Rattle.scfs_laws.proofs.HeldSeats.{latest, IsRow, IsSeen, ResultFits, OutcomeFits, RequestFits, ReplyFits, Fits, busy, step_of, Seated}
 use Rattle.scfs_laws.proofs.Lists.{each-append, each-map}
-use Rattle.scfs_laws.proofs.HeldSteps.{replied_append}
+use Rattle.scfs_laws.proofs.HeldSteps.{asked_append, replied_append}
 use Rattle.scfs_laws.proofs.HeldDoing.{seat_of}
 
 -- a version that is seen is the row of one
@@ -93,10 +93,7 @@ module _ (s : Setup) where
 
   pub seated_more : (ws more : List Version_seen) (a : ℕ) (y : Agent_seen) (m : Seat Row) → Seated s ws a y m → Seated s (ws ++ more) a y m
   seated_more ws more a y m is = record {
-    sessions = is.sessions;
-    incarnation = is.incarnation;
-    ahead = is.ahead;
-    upload = is.upload;
+    based = is.based;
     waits = is.waits;
     steps = record {
       asks = is.steps.asks;
@@ -119,15 +116,29 @@ module _ (s : Setup) where
       let sum = replied_append replied (reply ∷ []) in
       let as_busy : busy (step_of o) ≡ busy oldest.step = ap busy same in
       record {
-        sessions = is.sessions;
-        incarnation = is.incarnation;
-        ahead = is.ahead;
-        upload = is.upload;
+        based = is.based;
         waits = is.waits;
         steps = record {
           asks = is.steps.asks.1;
           replies = each-append (ReplyFits s a ws (latest y) agent.waiting agent.closed) replied (reply ∷ []) is.steps.replies
               ((first.0, subst (Fits s (latest y) agent.waiting agent.closed) (sym same) first.1, fits), tt);
           alone = omega (arith, sum, few, as_busy);
+        };
+      }
+
+  -- the oldest step goes to the back
+  pub moved_seated : (ws : List Version_seen) (a : ℕ) (y : Agent_seen) (agent : Agent Row) (oldest : Request Row) (rest : List (Request Row))
+      (replied : List (Reply Row)) → Seated s ws a y (seat_of agent (oldest ∷ rest) replied)
+      → Seated s ws a y (seat_of agent (rest ++ oldest ∷ []) replied)
+  moved_seated ws a y agent oldest rest replied is =
+      let few = is.steps.alone in
+      let sum = asked_append rest (oldest ∷ []) in
+      record {
+        based = is.based;
+        waits = is.waits;
+        steps = record {
+          asks = each-append (RequestFits s a ws (latest y) agent.waiting agent.closed) rest (oldest ∷ []) is.steps.asks.1 (is.steps.asks.0, tt);
+          replies = is.steps.replies;
+          alone = omega (arith, few, sum);
         };
       }

@@ -1,5 +1,5 @@
 -- What holds of each small move of an agent, and of one move after another, holds of all that it does.
-use Rattle.std.proofs.Common.{◌≡◌, ℕ, zero, suc, ◌+◌, ◌<◌, List, [], ◌∷◌, ◌++◌, length, filter, not, nat_lt, Bool, true, false, cond, refl, sym, Option, Some, None, Result, Ok, Err, is_some, arith, eqb-true, le-leb}
+use Rattle.std.proofs.Common.{◌≡◌, ◌⊎◌, inl, inr, ℕ, zero, suc, ◌+◌, ◌<◌, List, [], ◌∷◌, ◌++◌, length, filter, not, nat_lt, Bool, true, false, cond, refl, sym, Option, Some, None, Result, Ok, Err, is_some, arith, eqb-true, le-leb}
 use Rattle.std.specs.List.{range_with_len}
 use Rattle.std.specs.Prelude.{◌&&◌, ◌==◌, if◌then◌else◌}
 use Rattle.scfs_base.specs.Limits.{handles_limit, turns_limit}
@@ -28,22 +28,23 @@ use Rattle.scfs_model.specs.LockSteps.{Lock_step, Unlock, Unlock_all, Renew, Loc
 use Rattle.scfs_model.specs.SessionSteps.{Session_step, Open_read, Open_write, Commit, Sight, Session_outcome, Sees, Locks, Completes}
 use Rattle.scfs_model.specs.Steps.{Step, On_names, On_locks, On_sessions, Outcome, Of_names, Of_locks, Of_sessions}
 use Rattle.scfs_model.specs.Next.{Next, Goes_on, Asks, Has, Gives_up}
-use Rattle.scfs_model.specs.Reading.{is_awaited, piece_in, with_piece, read_on, read_turn}
+use Rattle.scfs_model.specs.Reading.{Reading, is_awaited, piece_in, with_piece, read_on}
 use Rattle.scfs_model.specs.Storing.{is_enough, is_new_ack, with_ack, store_on}
 use Rattle.scfs_model.specs.Sayings.{Saying}
 use Rattle.scfs_model.specs.Sayings as says
 use Rattle.scfs_model.specs.Agents.{Opening, Waiting, For_step, For_clouds, For_close, Upload, Closed, Agent, Input, Calls, Tells, Hears, Turns, Crashes, Starts, Reaction, silent, saying, answered, followed, asks_step}
-use Rattle.scfs_model.specs.Leases.{leased, unleased, file_of, renews, renews_all, renews_due}
+use Rattle.scfs_model.specs.Leases.{leased, unleased, file_of, renews, renews_all}
 use Rattle.scfs_model.specs.Opens as Opens
-use Rattle.scfs_model.specs.Opens.{Found, As_empty, On_clouds, found, tallied, session_on, opened, asks_gets, begins_open, sighted, saw, gives_up, reads, open_hears, open_turns}
+use Rattle.scfs_model.specs.Opens.{Found, As_empty, On_clouds, found, tallied, session_on, opened, asks_gets, begins_open, sighted, saw, gives_up, reads, takes, open_hears, open_turns}
 use Rattle.scfs_model.specs.Closes.{goes_on, with_storing, asks_puts, falls_short, stores, upload_hears, upload_turns, begins}
-use Rattle.scfs_model.specs.Calls.{any_names, path_names, with_session, unless_refused, calls_step, opens, close, called, call_of}
+use Rattle.scfs_model.specs.Calls.{any_names, path_names, with_session, unless_refused, opens, close, called, call_of}
 use Rattle.scfs_model.specs.Told.{is_pending, untold, told_locks, told_open, told_closed, told_commit, told}
-use Rattle.scfs_model.specs.Reactions.{next_life, idle, to_open, to_closed, to_upload, to_work, crashes, responded, begun, next_begun, reacted}
+use Rattle.scfs_model.specs.Reactions.{next_life, idle, to_open, to_closed, to_upload, to_work, hears, turns, crashes, responded, begun, next_begun, reacted}
+use Rattle.scfs_laws.specs.Held.{after_answer}
 use Rattle.scfs_laws.proofs.Lists.{Each, each-map, each-filter, length-put}
 
--- what is known of what comes to an agent: of a call, of a sight that it is told, of an answer of a cloud; and where it has a turn, goes
--- down and comes up
+-- what is known of what comes to an agent: of a call, of a sight that it is told, of an answer of a cloud; where it has a turn, goes
+-- down and comes up; and where what comes is taken by moves of their own
 pub record Known (V : Type 0) : Type 1 where
   pub call : Call → Type 0
   pub sight : RequestNo → Sight V → Type 0
@@ -51,6 +52,7 @@ pub record Known (V : Type 0) : Type 1 where
   pub turn : Type 0
   pub crash : Type 0
   pub start : Type 0
+  pub takes : Type 0
 
 module _ {V : Type 0} (known : Known V) where
   abbrev IsResult : RequestNo → OrRefusal (Session_outcome V) → Type 0
@@ -99,18 +101,21 @@ has_up Turns = true
 has_up Crashes = true
 has_up Starts = false
 
--- a saying that is no sight, no open and no start
+-- a saying that is no sight, no start, and tells nothing of bytes
 abbrev pub IsPlain : Saying → Type 0
 IsPlain (says.Saw request file number) = ⊥
 IsPlain (says.Opened session number source size) = ⊥
+IsPlain (says.Reads_out session bytes) = ⊥
+IsPlain (says.Wrote session size) = ⊥
+IsPlain (says.Truncated session size) = ⊥
 IsPlain (says.Started incarnation) = ⊥
 IsPlain other = Unit {0}
 
--- a step that makes no file and completes no close
+-- a step of a call that makes no file
 abbrev pub IsCommon : {V : Type 0} → Step V → Type 0
 IsCommon (On_names (Make names id)) = ⊥
 IsCommon (On_names (Look names)) = Unit {0}
-IsCommon (On_locks x) = Unit {0}
+IsCommon (On_locks x) = ⊥
 IsCommon (On_sessions (Open_read names h)) = Unit {0}
 IsCommon (On_sessions (Open_write names h)) = Unit {0}
 IsCommon (On_sessions (Commit h v)) = ⊥
@@ -124,12 +129,6 @@ module _ {V : Type 0} where
   abbrev pub opening : Agent V → Opening V → Agent V
   opening g o = awaiting g (Some (For_clouds o))
 
-  abbrev pub IsReading : Option (Waiting V) → Type 0
-  IsReading None = ⊥
-  IsReading (Some For_step) = ⊥
-  IsReading (Some (For_clouds o)) = Unit {0}
-  IsReading (Some For_close) = ⊥
-
   -- with this closed session before the others
   abbrev pub closing : Agent V → Closed V → Agent V
   closing g x = record g { closed = x ∷ g.closed }
@@ -140,57 +139,109 @@ module _ {V : Type 0} where
   abbrev pub turned_upload : Upload V → Upload V
   turned_upload u = with_storing u (record u.storing { turns = u.storing.turns + 1 })
 
+  -- one after the other, where the first only says what is plain or the second does
+  abbrev pub IsInOrder : (first second : Reaction V) → Type 0
+  IsInOrder first second = (Each IsPlain first.says × (first.sent ≡ [])) ⊎ Each IsPlain second.says
+
+  -- an upload that too few clouds acknowledged
+  abbrev pub IsShort : Setup → Option (Upload V) → Type 0
+  IsShort s None = ⊥
+  IsShort s (Some u) = is_enough s u.storing ≡ false
+
+  -- without what waited for a step that came to this
+  abbrev pub freed_open : Agent V → OrRefusal (Session_outcome V) → Agent V
+  freed_open g (Ok (Completes h v n)) = g
+  freed_open g other = awaiting g None
+
+  abbrev freed_closed : Agent V → Closed V → OrRefusal (Session_outcome V) → Agent V
+  freed_closed g x (Ok (Sees sight)) = closing g x
+  freed_closed g x (Ok (Locks sight l)) = closing g x
+  freed_closed g x other = awaiting g None
+
+  abbrev pub freed_commit : Agent V → List (Closed V) → OrRefusal (Session_outcome V) → Agent V
+  freed_commit g [] r = g
+  freed_commit g (x ∷ rest) r = freed_closed (record g { closed = rest }) x r
+
+  abbrev pub freed : Agent V → Outcome V → Agent V
+  freed g (Of_names x r) = awaiting g None
+  freed g (Of_locks x r) = g
+  freed g (Of_sessions (Open_read names h) r) = freed_open g r
+  freed g (Of_sessions (Open_write names h) r) = freed_open g r
+  freed g (Of_sessions (Commit h v) r) = freed_commit g g.closed r
+
+  -- with an answer of a cloud added to the open that it is for
+  abbrev pub with_answer : Setup → (c : ℕ) → RequestNo → CloudAnswer → Opening V → Opening V
+  with_answer s c request answer o = record o { reading = after_answer s c request answer o.reading }
+
+  abbrev pub heard : Setup → (c : ℕ) → RequestNo → CloudAnswer → Option (Waiting V) → Option (Waiting V)
+  heard s c request answer (Some (For_clouds o)) = Some (For_clouds (with_answer s c request answer o))
+  heard s c request answer other = other
+
 module _ {V : Type 0} (s : Setup) (vs : Versions V) (a : ℕ) (known : Known V) (given : Given) (P : Agent V → Reaction V → Type 0) where
   -- the small moves
   pub record Moves : Type 0 where
     pub still : (g : Agent V) → P g (silent g)
-    pub follow : (g : Agent V) (first second : Reaction V) → P g first → P first.agent second → P g (followed first (λ next. second))
+    pub follow : (g : Agent V) (first second : Reaction V) → IsInOrder first second → P g first → P first.agent second
+        → P g (followed first (λ next. second))
     pub aside : (g : Agent V) (life : Life) (leases : List Lease) (tallies : List RankFacts) (opens : ℕ) → is_up life ≡ is_up g.life
         → P g (silent (record g { life = life; leases = leases; tallies = tallies; opens = opens }))
     pub told : (g : Agent V) (request : RequestNo) → P g (silent (untold g request))
-    pub waits : (g : Agent V) (w : Option (Waiting V)) → ¬ IsReading w → P g (silent (awaiting g w))
+    pub frees : (g : Agent V) → known.takes → P g (silent (awaiting g None))
     pub says_plain : (g : Agent V) (x : Saying) → IsPlain x → P g (saying g x)
     -- steps
-    pub asks : (g : Agent V) (step : Step V) → IsCommon step → P g (asks_step a g step)
+    pub asks : (g : Agent V) (x : Lock_step) → P g (asks_step a g (On_locks x))
+    pub steps : (g : Agent V) (step : Step V) → IsCommon step → P (awaiting g None) (asks_step a (awaiting g (Some For_step)) step)
     pub makes : (g : Agent V) (path : List ℕ) (names : List (List ℕ)) → known.call (calls.Create path) →
-        let count : ℕ = g.files + 1 in P g (asks_step a (record g { files = count }) (On_names (Make names (file_id a g.incarnation count))))
+        let count : ℕ = g.files + 1 in
+        P (awaiting g None)
+        (asks_step a (awaiting (record g { files = count }) (Some For_step)) (On_names (Make names (file_id a g.incarnation count))))
     -- sessions
+    pub reads : (g : Agent V) (h offset count : ℕ) (bytes : List ℕ) → known.call (calls.Read h offset count)
+        → read_answer (session_of g.sessions h) offset count ≡ Ok bytes → P g (saying g (says.Reads_out h bytes))
     pub writes : (g : Agent V) (h offset : ℕ) (new : List ℕ) (y : Session) → known.call (calls.Write h offset new)
-        → after_write (session_of g.sessions h) offset new ≡ Ok y → P g (silent (with_session g h y))
-    pub truncates : (g : Agent V) (h size : ℕ) (y : Session) → after_truncate (session_of g.sessions h) size ≡ Ok y
-        → P g (silent (with_session g h y))
-    pub ends : (g : Agent V) (h : ℕ) → P g (silent (record g { sessions = ended g.sessions h }))
-    pub closes : (g : Agent V) (h : ℕ) (y : Session) → session_of g.sessions h ≡ Some y
-        → P g (silent (record g { sessions = ended g.sessions h; closed = g.closed ++ (record { number = h; session = y; upload = None }) ∷ [] }))
+        → after_write (session_of g.sessions h) offset new ≡ Ok y → P g (saying (with_session g h y) (says.Wrote h (length y.contents)))
+    pub truncates : (g : Agent V) (h size : ℕ) (y : Session) → known.call (calls.Truncate h size)
+        → after_truncate (session_of g.sessions h) size ≡ Ok y → P g (saying (with_session g h y) (says.Truncated h (length y.contents)))
+    pub ends : (g : Agent V) (h : ℕ) → known.call (calls.Close h) → P g (silent (record g { sessions = ended g.sessions h }))
+    pub closes : (g : Agent V) (h : ℕ) (y : Session) → known.call (calls.Close h) → session_of g.sessions h ≡ Some y
+        → P (awaiting g None) (silent (record g {
+          sessions = ended g.sessions h;
+          closed = g.closed ++ (record { number = h; session = y; upload = None }) ∷ [];
+          waiting = Some For_close;
+        }))
     -- opens
     pub sees_empty : (g : Agent V) (request : RequestNo) (h : ℕ) (writes : Bool) (sight : Sight V) → known.sight request sight
         → found sight ≡ As_empty
-        → P g (followed (saying g (says.Saw request sight.file sight.number)) (λ next. sighted s vs a next given h writes sight As_empty))
+        → P (awaiting g None)
+        (followed (saying g (says.Saw request sight.file sight.number)) (λ next. sighted s vs a next given h writes sight As_empty))
     pub sees_version : (g : Agent V) (request : RequestNo) (h : ℕ) (writes : Bool) (sight : Sight V) (v : V) → known.sight request sight
         → found sight ≡ On_clouds v
-        → P g (followed (saying g (says.Saw request sight.file sight.number)) (λ next. sighted s vs a next given h writes sight (On_clouds v)))
+        → P (awaiting g None)
+        (followed (saying g (says.Saw request sight.file sight.number)) (λ next. sighted s vs a next given h writes sight (On_clouds v)))
     pub turns_open : (g : Agent V) (o : Opening V) → P (opening g o) (silent (opening g (turned_open o)))
-    pub hears_open : (g : Agent V) (o : Opening V) (c : ℕ) (request : RequestNo) (answer : CloudAnswer) → known.answer c request answer
-        → is_awaited o.reading c request ≡ true
+    pub hears_open : (g : Agent V) (o : Opening V) (c : ℕ) (request : RequestNo) (answer : CloudAnswer) → known.takes
+        → known.answer c request answer → is_awaited o.reading c request ≡ true
         → P (opening g o) (silent (opening g (record o { reading = with_piece o.reading (piece_in s o.reading c answer) })))
     pub gets : (g : Agent V) (o : Opening V) (clouds : List ℕ) → P (opening g o) (asks_gets s vs a g o clouds)
-    pub shows : (g : Agent V) (o : Opening V) (bytes : List ℕ)
+    pub loses : (g : Agent V) (o : Opening V) → P (opening g o) (silent (awaiting g None))
+    pub shows : (g : Agent V) (o : Opening V) (bytes : List ℕ) → bytes ≡ s.format.unseal s.header.f o.reading.pieces
         → P (opening g o) (opened g o.session (session_on vs o.version o.writes (vs.contents o.version bytes)) sources.Clouds)
     -- uploads
     pub turns_upload : (g : Agent V) (x : Closed V) (u : Upload V) → P (goes_on g x u) (silent (goes_on g x (turned_upload u)))
     pub hears_upload : (g : Agent V) (x : Closed V) (u : Upload V) (c : ℕ) (request : RequestNo) (answer : CloudAnswer)
-        → known.answer c request answer → is_new_ack u.storing c request answer ≡ true
+        → known.answer c request answer → is_new_ack u.storing c request answer ≡ true → (length u.storing.acked + 1 == enough s) ≡ false
         → P (goes_on g x u) (silent (goes_on g x (with_storing u (with_ack u.storing c))))
+    pub commits : (g : Agent V) (x : Closed V) (u : Upload V) (c : ℕ) (request : RequestNo) (answer : CloudAnswer)
+        → known.answer c request answer → is_new_ack u.storing c request answer ≡ true → (length u.storing.acked + 1 == enough s) ≡ true
+        → P (goes_on g x u) (asks_step a (goes_on g x (with_storing u (with_ack u.storing c))) (On_sessions (Commit x.number u.version)))
     pub puts : (g : Agent V) (x : Closed V) (u : Upload V) (clouds : List ℕ) → known.turn → Each (λ c. c < clouds_of s) clouds
         → P (goes_on g x u) (asks_puts s a g x u clouds)
-    pub commits : (g : Agent V) (x : Closed V) (u : Upload V) → is_enough s u.storing ≡ true
-        → P (goes_on g x u) (asks_step a (goes_on g x u) (On_sessions (Commit x.number u.version)))
-    pub drops : (g : Agent V) (x : Closed V) → P (closing g x) (silent g)
+    pub drops : (g : Agent V) (x : Closed V) → known.takes ⊎ IsShort s x.upload → P (closing g x) (silent (awaiting g None))
     -- lives
     pub downs : (g : Agent V) → is_up g.life ≡ true → known.crash → P g (crashes s vs a g)
     pub ups : (g : Agent V) → is_up g.life ≡ false → known.start → P g (saying (next_life g) (says.Started (g.incarnation + 1)))
 
-chosen : {A : Type 0} (Q : A → Type 0) (b : Bool) (x y : A) → (b ≡ true → Q x) → (b ≡ false → Q y) → Q (cond b x y)
+pub chosen : {A : Type 0} (Q : A → Type 0) (b : Bool) (x y : A) → (b ≡ true → Q x) → (b ≡ false → Q y) → Q (cond b x y)
 chosen Q true x y h k = h refl
 chosen Q false x y h k = k refl
 
@@ -201,6 +252,12 @@ each-range from (suc n) = (omega arith, each-map (λ c. c < from + 1 + n) _ (λ 
 
 pub each-below : (n : ℕ) → Each (λ c. c < n) (below n)
 each-below n = each-map (λ c. c < 0 + n) (λ c. c < n) (λ c h. omega (arith, h)) (below n) (each-range 0 n)
+
+-- as many acknowledgements as are enough
+pub just_enough : {V : Type 0} (s : Setup) (u : Upload V) (c : ℕ) → (length u.storing.acked + 1 == enough s) ≡ true
+    → is_enough s (with_ack u.storing c) ≡ true
+just_enough s u c just =
+    le-leb (enough s) _ (omega (arith, length-put c u.storing.acked, eqb-true (length u.storing.acked + 1) (enough s) just))
 
 -- the upload that begins where none is in progress
 module _ {V : Type 0} (s : Setup) (vs : Versions V) (a : ℕ) (P : Agent V → Reaction V → Type 0) (still : (g : Agent V) → P g (silent g))
@@ -220,12 +277,17 @@ module _ {V : Type 0} (s : Setup) (vs : Versions V) (a : ℕ) (P : Agent V → R
 
 module _ {V : Type 0} (s : Setup) (vs : Versions V) (a : ℕ) (known : Known V) (given : Given) (P : Agent V → Reaction V → Type 0)
     (m : Moves s vs a known given P) where
-  -- what is known where this becomes of an upload
+  -- what is known where this becomes of an open, with the bytes that its pieces are
+  abbrev IsRead : List ℕ → Next (List ℕ) → Type 0
+  IsRead all (Has bytes) = bytes ≡ all
+  IsRead all other = Unit {0}
+
+  -- and of an upload
   abbrev IsNext : Upload V → Next (Unit {0}) → Type 0
   IsNext u Goes_on = Unit {0}
   IsNext u (Asks clouds) = known.turn × Each (λ c. c < clouds_of s) clouds
-  IsNext u (Has enough) = is_enough s u.storing ≡ true
-  IsNext u (Gives_up acks) = Unit {0}
+  IsNext u (Has enough) = ⊥
+  IsNext u (Gives_up acks) = is_enough s u.storing ≡ false
 
   -- what few laws look at, and nothing else
   leases_aside : (g : Agent V) (leases : List Lease) → P g (silent (record g { leases = leases }))
@@ -233,149 +295,163 @@ module _ {V : Type 0} (s : Setup) (vs : Versions V) (a : ℕ) (known : Known V) 
 
   -- after a change
   after : (g h : Agent V) (r : Reaction V) → P g (silent h) → P h r → P g r
-  after g h r first second = m.follow g (silent h) r first second
+  after g h r first second = m.follow g (silent h) r (inl (tt, refl)) first second
 
-  answers : (g : Agent V) (x : Saying) → IsPlain x → P g (answered g x)
-  answers g x plain = after g (awaiting g None) _ (m.waits g None (λ none. none)) (m.says_plain (awaiting g None) x plain)
-
-  answers_unleased : (g : Agent V) (h : ℕ) (x : Saying) → IsPlain x → P g (answered (unleased g h) x)
-  answers_unleased g h x plain = after g (unleased g h) _ (leases_aside g (unleased g h).leases) (answers (unleased g h) x plain)
+  answers : (g : Agent V) (h : ℕ) (x : Saying) → IsPlain x → P (awaiting g None) (answered (unleased g h) x)
+  answers g h x plain =
+      let next : Agent V = awaiting (unleased g h) None in
+      after (awaiting g None) next _ (leases_aside (awaiting g None) next.leases) (m.says_plain next x plain)
 
   -- calls
   unless : {X : Type 0} (g : Agent V) (x : Result X Refusal) (on : X → Reaction V) → ((y : X) → x ≡ Ok y → P g (on y)) → P g (unless_refused g x on)
   unless g (Ok x) on each = each x refl
   unless g (Err why) on each = m.says_plain g (says.Refuses why) tt
 
-  steps : (g : Agent V) (step : Step V) → IsCommon step → P g (calls_step a g step)
-  steps g step other =
-      after g (awaiting g (Some For_step)) _ (m.waits g (Some For_step) (λ none. none))
-      (m.asks (awaiting g (Some For_step)) step other)
-
-  asks_open : (g : Agent V) (step : (session : ℕ) → Session_step V) → ((h : ℕ) → IsCommon (On_sessions (step h))) → P g (opens a g step)
+  asks_open : (g : Agent V) (step : (session : ℕ) → Session_step V) → ((h : ℕ) → IsCommon (On_sessions (step h)))
+      → P (awaiting g None) (opens a (awaiting g None) step)
   asks_open g step other =
       let h : ℕ = g.opens + 1 in
       let next : Agent V = record g { opens = h } in
-      chosen (P g) (nat_lt (length g.sessions + length g.closed) handles_limit) _ _
-      (λ room. after g next _ (m.aside g g.life g.leases g.tallies h refl)
-      (steps next (On_sessions (step h)) (other h)))
-      (λ full. m.says_plain g _ tt)
+      chosen (P (awaiting g None)) (nat_lt (length g.sessions + length g.closed) handles_limit) _ _
+      (λ room. after (awaiting g None) (awaiting next None) _ (m.aside (awaiting g None) g.life g.leases g.tallies h refl)
+      (m.steps next (On_sessions (step h)) (other h)))
+      (λ full. m.says_plain (awaiting g None) _ tt)
 
-  closed : (g : Agent V) (h : ℕ) (there : Option Session) → session_of g.sessions h ≡ there → P g (close g h there)
-  closed g h None found = m.says_plain g _ tt
-  closed g h (Some y) found =
-      let left : Agent V = record g { sessions = ended g.sessions h } in
-      let all : List (Closed V) = g.closed ++ (record { number = h; session = y; upload = None }) ∷ [] in
-      chosen (P g) y.writes _ _
-      (λ writes. after g (record left { closed = all }) _ (m.closes g h y found)
-      (m.waits (record left { closed = all }) (Some For_close) (λ none. none)))
-      (λ reads. after g left _ (m.ends g h) (m.says_plain left (says.Ended h) tt))
+  closed : (g : Agent V) (h : ℕ) → known.call (calls.Close h) → (there : Option Session) → session_of g.sessions h ≡ there
+      → P (awaiting g None) (close (awaiting g None) h there)
+  closed g h k None found = m.says_plain (awaiting g None) _ tt
+  closed g h k (Some y) found =
+      let left : Agent V = awaiting (record g { sessions = ended g.sessions h }) None in
+      chosen (P (awaiting g None)) y.writes _ _ (λ writes. m.closes g h y k found)
+      (λ reads. after (awaiting g None) left _ (m.ends (awaiting g None) h k) (m.says_plain left (says.Ended h) tt))
 
-  called_by : (g : Agent V) (call : Call) → known.call call → P g (called a s g call)
-  called_by g (calls.Create path) k = unless g (path_names s path) _ (λ names ok.
-      after g (awaiting g (Some For_step)) _ (m.waits g (Some For_step) (λ none. none)) (m.makes (awaiting g (Some For_step)) path names k))
-  called_by g (calls.Stat path) k = unless g (any_names s path) _ (λ names ok. steps g (On_names (Look names)) tt)
-  called_by g (calls.OpenR path) k = unless g (path_names s path) _ (λ names ok. asks_open g (Open_read names) (λ h. tt))
-  called_by g (calls.OpenW path) k = unless g (path_names s path) _ (λ names ok. asks_open g (Open_write names) (λ h. tt))
+  called_by : (g : Agent V) (call : Call) → known.call call → P (awaiting g None) (called a s (awaiting g None) call)
+  called_by g (calls.Create path) k = unless (awaiting g None) (path_names s path) _ (λ names ok. m.makes g path names k)
+  called_by g (calls.Stat path) k = unless (awaiting g None) (any_names s path) _ (λ names ok. m.steps g (On_names (Look names)) tt)
+  called_by g (calls.OpenR path) k = unless (awaiting g None) (path_names s path) _ (λ names ok. asks_open g (Open_read names) (λ h. tt))
+  called_by g (calls.OpenW path) k = unless (awaiting g None) (path_names s path) _ (λ names ok. asks_open g (Open_write names) (λ h. tt))
   called_by g (calls.Read h offset count) k =
-      unless g (read_answer (session_of g.sessions h) offset count) _ (λ bytes ok. m.says_plain g (says.Reads_out h bytes) tt)
-  called_by g (calls.Write h offset new) k = unless g (after_write (session_of g.sessions h) offset new) _ (λ y ok.
-      after g (with_session g h y) _ (m.writes g h offset new y k ok) (m.says_plain (with_session g h y) (says.Wrote h (length y.contents)) tt))
-  called_by g (calls.Truncate h size) k = unless g (after_truncate (session_of g.sessions h) size) _ (λ y ok.
-      after g (with_session g h y) _ (m.truncates g h size y ok) (m.says_plain (with_session g h y) (says.Truncated h (length y.contents)) tt))
-  called_by g (calls.Close h) k = closed g h (session_of g.sessions h) refl
-  called_by g other k = m.still g
+      unless (awaiting g None) (read_answer (session_of g.sessions h) offset count) _ (λ bytes ok. m.reads (awaiting g None) h offset count bytes k ok)
+  called_by g (calls.Write h offset new) k =
+      unless (awaiting g None) (after_write (session_of g.sessions h) offset new) _ (λ y ok. m.writes (awaiting g None) h offset new y k ok)
+  called_by g (calls.Truncate h size) k =
+      unless (awaiting g None) (after_truncate (session_of g.sessions h) size) _ (λ y ok. m.truncates (awaiting g None) h size y k ok)
+  called_by g (calls.Close h) k = closed g h k (session_of g.sessions h) refl
+  called_by g other k = m.still (awaiting g None)
 
-  call_by : (g : Agent V) (call : Call) (w : Option (Waiting V)) → known.call call → P g (call_of a s g call w)
-  call_by g call None k = chosen (P g) (is_ready g.life) _ _ (λ ready. called_by g call k) (λ starting. m.says_plain g _ tt)
-  call_by g call (Some w) k = m.says_plain g _ tt
+  call_by : (g : Agent V) (call : Call) (w : Option (Waiting V)) → known.call call → P (awaiting g w) (call_of a s (awaiting g w) call w)
+  call_by g call None k =
+      chosen (P (awaiting g None)) (is_ready g.life) _ _ (λ ready. called_by g call k) (λ starting. m.says_plain (awaiting g None) _ tt)
+  call_by g call (Some w) k = m.says_plain (awaiting g (Some w)) _ tt
 
   -- opens
   sees : (g : Agent V) (request : RequestNo) (h : ℕ) (writes : Bool) (sight : Sight V) (f : Found V) → known.sight request sight → found sight ≡ f
-      → P g (followed (saying g (says.Saw request sight.file sight.number)) (λ next. sighted s vs a next given h writes sight f))
+      → P (awaiting g None) (followed (saying g (says.Saw request sight.file sight.number)) (λ next. sighted s vs a next given h writes sight f))
   sees g request h writes sight As_empty k is = m.sees_empty g request h writes sight k is
   sees g request h writes sight (On_clouds v) k is = m.sees_version g request h writes sight v k is
 
   backs : (g : Agent V) (o : Opening V) (writes : Bool)
       → P g (if writes then asks_step a g (On_locks (Unlock (vs.file o.version) o.session)) else silent g)
-  backs g o true = m.asks g (On_locks (Unlock (vs.file o.version) o.session)) tt
+  backs g o true = m.asks g (Unlock (vs.file o.version) o.session)
   backs g o false = m.still g
 
-  read_by : (g : Agent V) (o : Opening V) (next : Next (List ℕ)) → P (opening g o) (Opens.reads s vs a g o next)
-  read_by g o Goes_on = m.still (opening g o)
-  read_by g o (Asks clouds) = m.gets g o clouds
-  read_by g o (Has bytes) = m.shows g o bytes
-  read_by g o (Gives_up good) =
+  read_by : (g : Agent V) (o : Opening V) (next : Next (List ℕ)) → IsRead (s.format.unseal s.header.f o.reading.pieces) next
+      → P (opening g o) (Opens.reads s vs a g o next)
+  read_by g o Goes_on is = m.still (opening g o)
+  read_by g o (Asks clouds) is = m.gets g o clouds
+  read_by g o (Has bytes) is = m.shows g o bytes is
+  read_by g o (Gives_up good) is =
       let first : Reaction V = answered (unleased g o.session) (says.Refuses _) in
-      m.follow (opening g o) first _ (answers_unleased (opening g o) o.session _ tt) (backs first.agent o o.writes)
+      after (opening g o) (awaiting g None) _ (m.loses g o)
+      (m.follow (awaiting g None) first _ (inl ((tt, tt), refl)) (answers g o.session _ tt) (backs first.agent o o.writes))
 
-  open_hears_by : (g : Agent V) (o : Opening V) (c : ℕ) (request : RequestNo) (answer : CloudAnswer) → known.answer c request answer
-      → P (opening g o) (open_hears s vs a (idle (opening g o)) o c request answer)
-  open_hears_by g o c request answer k =
+  piece_by : (r : Reading) (piece : Option KeptPiece) → IsRead (s.format.unseal s.header.f (with_piece r piece).pieces) (read_on s r piece)
+  piece_by r None = tt
+  piece_by r (Some piece) = chosen (IsRead (s.format.unseal s.header.f (r.pieces ++ piece ∷ []))) (length r.pieces == s.header.f) _ _ (λ all. refl) (λ few. tt)
+
+  -- with the answer, and before it
+  open_hears_by : (g : Agent V) (o : Opening V) (c : ℕ) (request : RequestNo) (answer : CloudAnswer) (b : Bool) → is_awaited o.reading c request ≡ b →
+      let read : Reading = with_piece o.reading (piece_in s o.reading c answer) in
+      P (opening g (record o { reading = if b then read else o.reading }))
+      (if b then takes s vs a (idle (opening g o)) o c (piece_in s o.reading c answer) else Opens.reads s vs a (idle (opening g o)) o Goes_on)
+  open_hears_by g o c request answer true awaited =
       let piece : Option KeptPiece = piece_in s o.reading c answer in
       let read : Opening V = record o { reading = with_piece o.reading piece } in
       let h : Agent V = tallied g c (is_some piece) in
-      chosen (P (opening g o)) (is_awaited o.reading c request) _ _
-      (λ awaited. after (opening g o) (opening g read) _ (m.hears_open g o c request answer k awaited)
-      (after (opening g read) (opening h read) _
-      (m.aside (opening g read) g.life g.leases h.tallies g.opens refl) (read_by h read (read_on s o.reading piece))))
-      (λ other. m.still (opening g o))
+      after (opening g read) (opening h read) _ (m.aside (opening g read) g.life g.leases h.tallies g.opens refl)
+      (read_by h read (read_on s o.reading piece) (piece_by o.reading piece))
+  open_hears_by g o c request answer false other = m.still (opening g o)
+
+  answer_by : (g : Agent V) (o : Opening V) (c : ℕ) (request : RequestNo) (answer : CloudAnswer) → known.takes → known.answer c request answer
+      → (b : Bool) → is_awaited o.reading c request ≡ b →
+      let read : Reading = with_piece o.reading (piece_in s o.reading c answer) in
+      P (opening g o) (silent (opening g (record o { reading = if b then read else o.reading })))
+  answer_by g o c request answer takes k true awaited = m.hears_open g o c request answer takes k awaited
+  answer_by g o c request answer takes k false other = m.still (opening g o)
+
+  turn_by : (g : Agent V) (o : Opening V) (b : Bool) (good : ℕ) (clouds : List ℕ)
+      → P (opening g o) (Opens.reads s vs a g o (if b then Gives_up good else Asks clouds))
+  turn_by g o true good clouds = read_by g o (Gives_up good) tt
+  turn_by g o false good clouds = read_by g o (Asks clouds) tt
 
   open_turns_by : (g : Agent V) (o : Opening V) → P (opening g o) (open_turns s vs a (idle (opening g o)) o)
-  open_turns_by g o = after (opening g o) (opening g (turned_open o)) _ (m.turns_open g o) (read_by g (turned_open o) (read_turn o.reading))
+  open_turns_by g o = after (opening g o) (opening g (turned_open o)) _ (m.turns_open g o) (turn_by g (turned_open o) _ _ _)
 
   -- uploads
-  falls : (g : Agent V) (x : Closed V) (acks : ℕ) → P (closing g x) (falls_short s a g x acks)
-  falls g x acks =
+  falls : (g : Agent V) (x : Closed V) (acks : ℕ) → IsShort s x.upload → P (closing g x) (falls_short s a g x acks)
+  falls g x acks short =
       let first : Reaction V = answered (unleased g x.number) (says.Refuses _) in
-      after (closing g x) g _ (m.drops g x)
-      (m.follow g first _ (answers_unleased g x.number _ tt) (m.asks first.agent (On_locks (Unlock x.session.file x.number)) tt))
+      after (closing g x) (awaiting g None) _ (m.drops g x (inr short))
+      (m.follow (awaiting g None) first _ (inl ((tt, tt), refl)) (answers g x.number _ tt) (m.asks first.agent (Unlock x.session.file x.number)))
 
   -- the agent without the upload that goes on, as it is given to what is done on it
   stores_by : (g : Agent V) (x : Closed V) (u : Upload V) (next : Next (Unit {0})) → IsNext u next → P (goes_on g x u) (stores s a g x u next)
   stores_by g x u Goes_on k = m.still (goes_on g x u)
   stores_by g x u (Asks clouds) k = m.puts g x u clouds k.0 k.1
-  stores_by g x u (Has enough) k = m.commits g x u k
-  stores_by g x u (Gives_up acks) k = falls g (record x { upload = Some u }) acks
+  stores_by g x u (Has enough) k = absurd k
+  stores_by g x u (Gives_up acks) k = falls g (record x { upload = Some u }) acks k
 
-  hears_by : (g : Agent V) (x : Closed V) (u : Upload V) (b : Bool) → (length u.storing.acked + 1 == enough s) ≡ b → (c : ℕ)
-      → IsNext (with_storing u (with_ack u.storing c)) (if b then Has tt else Goes_on)
-  hears_by g x u true e c = le-leb (enough s) _ (omega (arith, length-put c u.storing.acked, eqb-true (length u.storing.acked + 1) (enough s) e))
-  hears_by g x u false e c = tt
+  stores_plain : (g : Agent V) (x : Closed V) (u : Upload V) (next : Next (Unit {0})) → Each IsPlain (stores s a g x u next).says
+  stores_plain g x u (Gives_up acks) = (tt, tt)
+  stores_plain g x u other = tt
+
+  hears_by : (g : Agent V) (x : Closed V) (u : Upload V) (c : ℕ) (request : RequestNo) (answer : CloudAnswer) → known.answer c request answer
+      → is_new_ack u.storing c request answer ≡ true → (b : Bool) → (length u.storing.acked + 1 == enough s) ≡ b
+      → P (goes_on g x u) (stores s a g x (with_storing u (with_ack u.storing c)) (if b then Has tt else Goes_on))
+  hears_by g x u c request answer k new true just = m.commits g x u c request answer k new just
+  hears_by g x u c request answer k new false other = m.hears_upload g x u c request answer k new other
 
   upload_hears_by : (g : Agent V) (x : Closed V) (u : Upload V) (c : ℕ) (request : RequestNo) (answer : CloudAnswer) → known.answer c request answer
       → P (goes_on g x u) (upload_hears s a g x u c request answer)
   upload_hears_by g x u c request answer k =
-      let acked : Upload V = with_storing u (with_ack u.storing c) in
       chosen (P (goes_on g x u)) (is_new_ack u.storing c request answer) _ _
-      (λ new. after (goes_on g x u) (goes_on g x acked) _
-      (m.hears_upload g x u c request answer k new)
-      (stores_by g x acked (store_on s u.storing) (hears_by g x u (length u.storing.acked + 1 == enough s) refl c)))
-      (λ other. m.still (goes_on g x u))
+      (λ new. hears_by g x u c request answer k new (length u.storing.acked + 1 == enough s) refl) (λ other. m.still (goes_on g x u))
 
-  turns_by : (g : Agent V) (x : Closed V) (u : Upload V) (all last : Bool) (acks : ℕ) (clouds : List ℕ) → known.turn
+  hears_plain : (g : Agent V) (x : Closed V) (u : Upload V) (c : ℕ) (request : RequestNo) (answer : CloudAnswer)
+      → Each IsPlain (upload_hears s a g x u c request answer).says
+  hears_plain g x u c request answer =
+      let acked : Upload V = with_storing u (with_ack u.storing c) in
+      chosen (λ (r : Reaction V). Each IsPlain r.says) (is_new_ack u.storing c request answer) _ _
+      (λ new. stores_plain g x acked (store_on s u.storing)) (λ other. tt)
+
+  turns_by : (g : Agent V) (x : Closed V) (u : Upload V) (all last : Bool) (acks : ℕ) (clouds : List ℕ) → is_enough s u.storing ≡ all → known.turn
       → Each (λ c. c < clouds_of s) clouds
       → P (goes_on g x u) (stores s a g x u (if all then Goes_on else if last then Gives_up acks else Asks clouds))
-  turns_by g x u true last acks clouds k each = stores_by g x u Goes_on tt
-  turns_by g x u false true acks clouds k each = stores_by g x u (Gives_up acks) tt
-  turns_by g x u false false acks clouds k each = stores_by g x u (Asks clouds) (k, each)
+  turns_by g x u true last acks clouds few k each = stores_by g x u Goes_on tt
+  turns_by g x u false true acks clouds few k each = stores_by g x u (Gives_up acks) few
+  turns_by g x u false false acks clouds few k each = stores_by g x u (Asks clouds) (k, each)
 
   upload_turns_by : (g : Agent V) (x : Closed V) (u : Upload V) → known.turn → P (goes_on g x u) (upload_turns s a g x u)
   upload_turns_by g x u k =
       let test : ℕ → Bool = λ c. not (is_in c u.storing.acked) in
       after (goes_on g x u) (goes_on g x (turned_upload u)) _ (m.turns_upload g x u)
       (turns_by g x (turned_upload u) (is_enough s u.storing) (u.storing.turns + 1 == turns_limit) (length u.storing.acked)
-      (filter test (below (clouds_of s))) k (each-filter _ test (below (clouds_of s)) (each-below (clouds_of s))))
+      (filter test (below (clouds_of s))) refl k (each-filter _ test (below (clouds_of s)) (each-below (clouds_of s))))
 
   -- first for the open, then for the upload
   module _ (on_open : Agent V → Opening V → Reaction V) (on_upload : Agent V → Closed V → Upload V → Reaction V)
-      (opens_by : (g : Agent V) (o : Opening V) → P (opening g o) (on_open (idle (opening g o)) o))
-      (uploads_by : (g : Agent V) (x : Closed V) (u : Upload V) → P (goes_on g x u) (on_upload g x u)) where
-    open_by : (g : Agent V) (w : Option (Waiting V)) → P (awaiting g w) (to_open (awaiting g w) on_open w)
-    open_by g None = m.still (awaiting g None)
-    open_by g (Some For_step) = m.still (awaiting g (Some For_step))
-    open_by g (Some (For_clouds o)) = opens_by g o
-    open_by g (Some For_close) = m.still (awaiting g (Some For_close))
-
+      (uploads_by : (g : Agent V) (x : Closed V) (u : Upload V) → P (goes_on g x u) (on_upload g x u))
+      (plain : (g : Agent V) (x : Closed V) (u : Upload V) → Each IsPlain (on_upload g x u).says) where
     closed_by : (g : Agent V) (rest : List (Closed V)) (x : Closed V) (u : Option (Upload V)) →
         let y : Closed V = record x { upload = u } in
         let h : Agent V = record g { closed = y ∷ rest } in P h (to_closed h on_upload rest y u)
@@ -386,47 +462,109 @@ module _ {V : Type 0} (s : Setup) (vs : Versions V) (a : ℕ) (known : Known V) 
     upload_by g [] = m.still _
     upload_by g (x ∷ rest) = closed_by g rest x x.upload
 
-    work_by : (g : Agent V) → P g (to_work g on_open on_upload)
-    work_by g =
+    closed_plain : (g : Agent V) (rest : List (Closed V)) (x : Closed V) (u : Option (Upload V)) → Each IsPlain (to_closed g on_upload rest x u).says
+    closed_plain g rest x None = tt
+    closed_plain g rest x (Some u) = plain (record g { closed = rest }) x u
+
+    upload_plain : (g : Agent V) (xs : List (Closed V)) → Each IsPlain (to_upload g on_upload xs).says
+    upload_plain g [] = tt
+    upload_plain g (x ∷ rest) = closed_plain g rest x x.upload
+
+    work_by : (before g : Agent V) → P before (to_open g on_open g.waiting) → P before (to_work g on_open on_upload)
+    work_by before g opens =
         let first : Reaction V = to_open g on_open g.waiting in
-        m.follow g first _ (open_by g g.waiting) (upload_by first.agent first.agent.closed)
+        m.follow before first _ (inr (upload_plain first.agent first.agent.closed)) opens (upload_by first.agent first.agent.closed)
 
   -- renewals
   renew_by : (g : Agent V) (h : ℕ) (file : Option FileId) → P g (if_some file (silent g) (renews vs a g h))
   renew_by g h None = m.still g
   renew_by g h (Some file) =
       let next : Agent V = record g { leases = with_renewal h g.leases } in
-      after g next _ (leases_aside g next.leases) (m.asks next (On_locks (Renew file h)) tt)
+      after g next _ (leases_aside g next.leases) (m.asks next (Renew file h))
+
+  abbrev IsQuiet : Reaction V → Type 0
+  IsQuiet r = Each IsPlain r.says × (r.sent ≡ [])
+
+  renew_quiet : (g : Agent V) (h : ℕ) (file : Option FileId) → IsQuiet (if_some file (silent g) (renews vs a g h))
+  renew_quiet g h None = (tt, refl)
+  renew_quiet g h (Some file) = (tt, refl)
+
+  renews_quiet : (g : Agent V) (leases : List Lease) → IsQuiet (renews_all vs a g leases)
+  renews_quiet g [] = (tt, refl)
+  renews_quiet g (l ∷ rest) =
+      by (file_of vs g l.session g.waiting) (renews_quiet g rest) (λ file. renews_quiet (renews vs a g l.session file).agent rest)
+    where
+      by : (file : Option FileId) → IsQuiet (renews_all vs a g rest)
+          → ((file : FileId) → IsQuiet (renews_all vs a (renews vs a g l.session file).agent rest))
+          → IsQuiet (followed (if_some file (silent g) (renews vs a g l.session)) (λ next. renews_all vs a next rest))
+      by None none each = none
+      by (Some file) none each = each file
 
   renews_by : (g : Agent V) (leases : List Lease) → P g (renews_all vs a g leases)
   renews_by g [] = m.still g
   renews_by g (l ∷ rest) =
       let file : Option FileId = file_of vs g l.session g.waiting in
       let first : Reaction V = if_some file (silent g) (renews vs a g l.session) in
-      m.follow g first _ (renew_by g l.session file) (renews_by first.agent rest)
+      m.follow g first _ (inl (renew_quiet g l.session file)) (renew_by g l.session file) (renews_by first.agent rest)
 
-  -- what is told
+  -- a turn
+  waiting_turns : (g : Agent V) (w : Option (Waiting V)) → P (awaiting g w) (to_open (awaiting g w) (open_turns s vs a) w)
+  waiting_turns g None = m.still (awaiting g None)
+  waiting_turns g (Some For_step) = m.still (awaiting g (Some For_step))
+  waiting_turns g (Some (For_clouds o)) = open_turns_by g o
+  waiting_turns g (Some For_close) = m.still (awaiting g (Some For_close))
+
+  pub turned : (g : Agent V) → known.turn → P g (turns s vs a g given)
+  turned g k =
+      let due : List Lease = filter (λ (l : Lease). is_due given.now s.header.lease l && not l.asked) g.leases in
+      let first : Reaction V = renews_all vs a g due in
+      let next : Agent V = first.agent in
+      m.follow g first _ (inl (renews_quiet g due)) (renews_by g due)
+      (work_by (open_turns s vs a) (upload_turns s a) (λ g x u. upload_turns_by g x u k) (λ g x u. stores_plain g x (turned_upload u) _)
+      next next (waiting_turns next next.waiting))
+
+  -- an answer of a cloud, once the open has it
+  waiting_hears : (g : Agent V) (c : ℕ) (request : RequestNo) (answer : CloudAnswer) (w : Option (Waiting V))
+      → P (awaiting g (heard s c request answer w)) (to_open (awaiting g w) (λ next o. open_hears s vs a next o c request answer) w)
+  waiting_hears g c request answer None = m.still (awaiting g None)
+  waiting_hears g c request answer (Some For_step) = m.still (awaiting g (Some For_step))
+  waiting_hears g c request answer (Some (For_clouds o)) = open_hears_by g o c request answer (is_awaited o.reading c request) refl
+  waiting_hears g c request answer (Some For_close) = m.still (awaiting g (Some For_close))
+
+  pub hears_on : (g : Agent V) (c : ℕ) (request : RequestNo) (answer : CloudAnswer) → known.answer c request answer
+      → P (awaiting g (heard s c request answer g.waiting)) (hears s vs a g c request answer)
+  hears_on g c request answer k =
+      work_by (λ next o. open_hears s vs a next o c request answer) (λ next x u. upload_hears s a next x u c request answer)
+      (λ g x u. upload_hears_by g x u c request answer k) (λ g x u. hears_plain g x u c request answer)
+      (awaiting g (heard s c request answer g.waiting)) g (waiting_hears g c request answer g.waiting)
+
+  waiting_takes : (g : Agent V) (c : ℕ) (request : RequestNo) (answer : CloudAnswer) (w : Option (Waiting V)) → known.takes
+      → known.answer c request answer → P (awaiting g w) (silent (awaiting g (heard s c request answer w)))
+  waiting_takes g c request answer (Some (For_clouds o)) takes k = answer_by g o c request answer takes k (is_awaited o.reading c request) refl
+  waiting_takes g c request answer w takes k = m.still (awaiting g w)
+
+  -- what is told, once nothing waits for it
   sight_by : (g : Agent V) (request : RequestNo) (h : ℕ) (writes : Bool) (sight : Sight V) → known.sight request sight
-      → P g (saw s vs a g given request h writes sight)
+      → P (awaiting g None) (saw s vs a g given request h writes sight)
   sight_by g request h writes sight k = sees g request h writes sight (found sight) k refl
 
   open_told : (g : Agent V) (request : RequestNo) (h : ℕ) (r : OrRefusal (Session_outcome V)) → IsResult known request r
-      → P g (told_open s vs a g given request h r)
+      → P (freed_open g r) (told_open s vs a g given request h r)
   open_told g request h (Ok (Sees sight)) k = sight_by g request h false sight k
   open_told g request h (Ok (Locks sight l)) k =
-      let next : Agent V = leased g h l.until in after g next _ (leases_aside g next.leases) (sight_by next request h true sight k)
+      let next : Agent V = leased g h l.until in
+      after (awaiting g None) (awaiting next None) _ (leases_aside (awaiting g None) next.leases) (sight_by next request h true sight k)
   open_told g request h (Ok (Completes session v n)) k = m.still g
-  open_told g request h (Err why) k = answers g (says.Refuses why) tt
+  open_told g request h (Err why) k = m.says_plain (awaiting g None) (says.Refuses why) tt
 
-  closed_told : (g : Agent V) (x : Closed V) (r : OrRefusal (Session_outcome V)) → P (closing g x) (told_closed s vs a g x r)
-  closed_told g x (Ok (Completes session v n)) =
-      after (closing g x) g _ (m.drops g x) (answers_unleased g x.number (says.Stored x.number (vs.number v)) tt)
+  closed_told : (g : Agent V) (x : Closed V) (r : OrRefusal (Session_outcome V)) → P (freed_closed g x r) (told_closed s vs a g x r)
+  closed_told g x (Ok (Completes session v n)) = answers g x.number (says.Stored x.number (vs.number v)) tt
   closed_told g x (Ok (Sees sight)) = m.still (closing g x)
   closed_told g x (Ok (Locks sight l)) = m.still (closing g x)
-  closed_told g x (Err why) = after (closing g x) g _ (m.drops g x) (answers_unleased g x.number (says.Refuses why) tt)
+  closed_told g x (Err why) = answers g x.number (says.Refuses why) tt
 
   commit_told : (g : Agent V) (xs : List (Closed V)) (r : OrRefusal (Session_outcome V))
-      → P (record g { closed = xs }) (told_commit s vs a (record g { closed = xs }) xs r)
+      → P (freed_commit (record g { closed = xs }) xs r) (told_commit s vs a (record g { closed = xs }) xs r)
   commit_told g [] r = m.still _
   commit_told g (x ∷ rest) r = closed_told (record g { closed = rest }) x r
 
@@ -442,36 +580,69 @@ module _ {V : Type 0} (s : Setup) (vs : Versions V) (a : ℕ) (known : Known V) 
   locks_told g (Renew file h) (Err why) up =
       let next : Agent V = unleased g h in after g next _ (leases_aside g next.leases) (m.says_plain next (says.Lapsed h) tt)
 
-  told_by : (g : Agent V) (request : RequestNo) (o : Outcome V) → is_up g.life ≡ true → IsReply known request o → P g (told s vs a g given request o)
-  told_by g request (Of_names x (Ok (Makes n))) up k = answers g (says.Made n.id) tt
-  told_by g request (Of_names x (Ok (Shows n))) up k = answers g (says.Described n) tt
-  told_by g request (Of_names x (Err why)) up k = answers g (says.Refuses why) tt
-  told_by g request (Of_locks x r) up k = locks_told g x r up
-  told_by g request (Of_sessions (Open_read names h) r) up k = open_told g request h r k
-  told_by g request (Of_sessions (Open_write names h) r) up k = open_told g request h r k
-  told_by g request (Of_sessions (Commit h v) r) up k = commit_told g g.closed r
+  pub told_on : (g : Agent V) (request : RequestNo) (o : Outcome V) → is_up g.life ≡ true → IsReply known request o
+      → P (freed g o) (told s vs a g given request o)
+  told_on g request (Of_names x (Ok (Makes n))) up k = m.says_plain (awaiting g None) (says.Made n.id) tt
+  told_on g request (Of_names x (Ok (Shows n))) up k = m.says_plain (awaiting g None) (says.Described n) tt
+  told_on g request (Of_names x (Err why)) up k = m.says_plain (awaiting g None) (says.Refuses why) tt
+  told_on g request (Of_locks x r) up k = locks_told g x r up
+  told_on g request (Of_sessions (Open_read names h) r) up k = open_told g request h r k
+  told_on g request (Of_sessions (Open_write names h) r) up k = open_told g request h r k
+  told_on g request (Of_sessions (Commit h v) r) up k = commit_told g g.closed r
+
+  open_frees : (g : Agent V) (r : OrRefusal (Session_outcome V)) → known.takes → P g (silent (freed_open g r))
+  open_frees g (Ok (Completes h v n)) takes = m.still g
+  open_frees g (Ok (Sees sight)) takes = m.frees g takes
+  open_frees g (Ok (Locks sight l)) takes = m.frees g takes
+  open_frees g (Err why) takes = m.frees g takes
+
+  commit_frees : (g : Agent V) (xs : List (Closed V)) (r : OrRefusal (Session_outcome V)) → known.takes →
+      let h : Agent V = record g { closed = xs } in P h (silent (freed_commit h xs r))
+  commit_frees g [] r takes = m.still _
+  commit_frees g (x ∷ rest) (Ok (Completes h v n)) takes = m.drops (record g { closed = rest }) x (inl takes)
+  commit_frees g (x ∷ rest) (Ok (Sees sight)) takes = m.still _
+  commit_frees g (x ∷ rest) (Ok (Locks sight l)) takes = m.still _
+  commit_frees g (x ∷ rest) (Err why) takes = m.drops (record g { closed = rest }) x (inl takes)
+
+  frees_by : (g : Agent V) (o : Outcome V) → known.takes → P g (silent (freed g o))
+  frees_by g (Of_names x r) takes = m.frees g takes
+  frees_by g (Of_locks x r) takes = m.still g
+  frees_by g (Of_sessions (Open_read names h) r) takes = open_frees g r takes
+  frees_by g (Of_sessions (Open_write names h) r) takes = open_frees g r takes
+  frees_by g (Of_sessions (Commit h v) r) takes = commit_frees g g.closed r takes
+
+  pub calls_by : (g : Agent V) (call : Call) → known.call call → P g (call_of a s g call g.waiting)
+  calls_by g call k = call_by g call g.waiting k
 
   -- what an input asks for, where an agent that is up has it, but a start
-  pub responds : (g : Agent V) (input : Input V) → is_up g.life ≡ has_up input → IsInput known input → P g (responded s vs a g given input)
-  responds g (Calls call) up k = call_by g call g.waiting k
-  responds g (Tells request o) up k =
+  pub responds : known.takes → (g : Agent V) (input : Input V) → is_up g.life ≡ has_up input → IsInput known input
+      → P g (responded s vs a g given input)
+  responds takes g (Calls call) up k = calls_by g call k
+  responds takes g (Tells request o) up k =
       let left : Agent V = untold g request in
-      chosen (P g) (is_pending g request) _ _ (λ pending. after g left _ (m.told g request) (told_by left request o up k)) (λ other. m.still g)
-  responds g (Hears c request answer) up k =
-      work_by (λ next o. open_hears s vs a next o c request answer) (λ next x u. upload_hears s a next x u c request answer)
-      (λ g o. open_hears_by g o c request answer k) (λ g x u. upload_hears_by g x u c request answer k) g
-  responds g Turns up k =
-      let first : Reaction V = renews_due vs a g given.now s.header.lease in
-      m.follow g first _ (renews_by g (filter (λ (l : Lease). is_due given.now s.header.lease l && not l.asked) g.leases))
-      (work_by (open_turns s vs a) (upload_turns s a) open_turns_by (λ g x u. upload_turns_by g x u k) first.agent)
-  responds g Crashes up k = m.downs g up k
-  responds g Starts up k =
+      chosen (P g) (is_pending g request) _ _
+      (λ pending. after g left _ (m.told g request) (after left (freed left o) _ (frees_by left o takes) (told_on left request o up k)))
+      (λ other. m.still g)
+  responds takes g (Hears c request answer) up k =
+      after g (awaiting g (heard s c request answer g.waiting)) _ (waiting_takes g c request answer g.waiting takes k) (hears_on g c request answer k)
+  responds takes g Turns up k = turned g k
+  responds takes g Crashes up k = m.downs g up k
+  responds takes g Starts up k =
       let h : Agent V = next_life g in
-      m.follow g (saying h (says.Started h.incarnation)) _ (m.ups g up k) (m.asks h (On_locks Unlock_all) tt)
+      m.follow g (saying h (says.Started h.incarnation)) _ (inr tt) (m.ups g up k) (m.asks h Unlock_all)
+
+  begun_plain : (g : Agent V) (rest : List (Closed V)) (x : Closed V) (u : Option (Upload V)) → Each IsPlain (begun s vs a g rest x u).says
+  begun_plain g rest x None = tt
+  begun_plain g rest x (Some u) = tt
+
+  next_plain : (g : Agent V) (xs : List (Closed V)) → Each IsPlain (next_begun s vs a g xs).says
+  next_plain g [] = tt
+  next_plain g (x ∷ rest) = begun_plain g rest x x.upload
 
   -- with the upload that begins then
-  pub reacts : ((g : Agent V) (x : Closed V) → P (closing g (record x { upload = None })) (begins s vs a g x))
+  pub reacts : ((g : Agent V) (x : Closed V) → P (closing g (record x { upload = None })) (begins s vs a g x)) → known.takes
       → (g : Agent V) (input : Input V) → is_up g.life ≡ has_up input → IsInput known input → P g (reacted s vs a g given input)
-  reacts begins_by g input up k =
+  reacts begins_by takes g input up k =
       let first : Reaction V = responded s vs a g given input in
-      m.follow g first _ (responds g input up k) (next_begins s vs a P m.still begins_by first.agent)
+      m.follow g first _ (inr (next_plain first.agent first.agent.closed)) (responds takes g input up k)
+      (next_begins s vs a P m.still begins_by first.agent)

@@ -1,5 +1,5 @@
 -- Whatever comes to an agent, its opens are of the versions of its latest saw line.
-use Rattle.std.proofs.Common.{◌≡◌, ℕ, List, [], ◌∷◌, ◌++◌, Bool, true, false, cond, refl, sym, subst, ◌∙◌, Option, Some, None, eqb, fold}
+use Rattle.std.proofs.Common.{◌≡◌, ℕ, List, [], ◌∷◌, ◌++◌, Bool, true, false, cond, refl, sym, subst, ◌∙◌, Option, Some, None, eqb, fold, IfSome}
 use Rattle.std.proofs.lemmas.Bool.{eqb-true, eqb-false}
 use Rattle.scfs_base.specs.declared.naming.RequestNo.{RequestNo}
 use Rattle.scfs_model.specs.Format.{Setup}
@@ -10,11 +10,12 @@ use Rattle.scfs_model.specs.Lives.{is_up}
 use Rattle.scfs_model.specs.SessionSteps.{Sight}
 use Rattle.scfs_model.specs.Sayings.{Saying}
 use Rattle.scfs_model.specs.Sayings as says
-use Rattle.scfs_model.specs.Agents.{Opening, Waiting, For_step, For_clouds, For_close, Agent, Input, Reaction}
+use Rattle.scfs_model.specs.Agents.{Opening, Waiting, Agent, Input, Reaction}
 use Rattle.scfs_model.specs.Opens.{Found, As_empty, On_clouds, found_version, found}
 use Rattle.scfs_model.specs.Reactions.{reacted}
 use Rattle.scfs_laws.specs.Newest.{Saw_line, WasNewest, IsNewest, IsFrom}
-use Rattle.scfs_laws.proofs.Moves.{Known, IsInput, has_up, IsPlain, IsReading, Moves, reacts}
+use Rattle.scfs_laws.specs.Sound.{open_of}
+use Rattle.scfs_laws.proofs.Moves.{Known, IsInput, has_up, IsPlain, Moves, reacts}
 use Rattle.scfs_laws.proofs.NewestVersions.{VersionOk}
 
 -- the latest saw line after what an agent says
@@ -52,20 +53,11 @@ module _ (past : History) (a : ℕ) where
 
 module _ {V : Type 0} (vs : Versions V) (past : History) where
   -- what is known of an open that reads the clouds
-  abbrev IsOpen : Option Saw_line → Opening V → Type 0
+  abbrev pub IsOpen : Option Saw_line → Opening V → Type 0
   IsOpen latest o = IsNewest past latest (vs.number o.version) × ¬ (vs.number o.version ≡ 0)
 
   abbrev pub WaitOk : Option Saw_line → Option (Waiting V) → Type 0
-  WaitOk latest None = Unit {0}
-  WaitOk latest (Some For_step) = Unit {0}
-  WaitOk latest (Some (For_clouds o)) = IsOpen latest o
-  WaitOk latest (Some For_close) = Unit {0}
-
-  wait_free : (latest : Option Saw_line) (w : Option (Waiting V)) → ¬ IsReading w → WaitOk latest w
-  wait_free latest None free = tt
-  wait_free latest (Some For_step) free = tt
-  wait_free latest (Some (For_clouds o)) free = absurd (free tt)
-  wait_free latest (Some For_close) free = tt
+  WaitOk latest w = IfSome (open_of w) (IsOpen latest)
 
   -- of a sight that is told
   abbrev pub SightOk : (a : ℕ) → RequestNo → Sight V → Type 0
@@ -105,13 +97,14 @@ module _ {V : Type 0} (s : Setup) (vs : Versions V) (past : History) (a : ℕ) w
         turn = Unit {0};
         crash = Unit {0};
         start = Unit {0};
+        takes = Unit {0};
       }
 
   moves : (given : Given) → Moves s vs a known given Whole
   moves given =
       record {
         still = λ g latest w. (tt, w);
-        follow = λ g first second one two latest w.
+        follow = λ g first second order one two latest w.
             let h = one latest w in
             let n = two (after_says latest first.says) h.1 in (
               says_append past a latest first.says second.says h.0 n.0,
@@ -119,15 +112,17 @@ module _ {V : Type 0} (s : Setup) (vs : Versions V) (past : History) (a : ℕ) w
             );
         aside = λ g life leases tallies opens same latest w. (tt, w);
         told = λ g request latest w. (tt, w);
-        waits = λ g later free latest w. (tt, wait_free vs past latest later free);
+        frees = λ g takes latest w. (tt, tt);
         says_plain = λ g x plain latest w.
             let k = plain_ok past a latest x plain in ((k.0, tt), subst (λ l. WaitOk vs past l g.waiting) (sym k.1) w);
-        asks = λ g step common latest w. (tt, w);
-        makes = λ g path names k latest w. (tt, w);
-        writes = λ g h offset new y k ok latest w. (tt, w);
-        truncates = λ g h size y ok latest w. (tt, w);
-        ends = λ g h latest w. (tt, w);
-        closes = λ g h y found latest w. (tt, w);
+        asks = λ g x latest w. (tt, w);
+        steps = λ g step common latest w. (tt, tt);
+        makes = λ g path names k latest w. (tt, tt);
+        reads = λ g h offset count bytes k ok latest w. ((tt, tt), w);
+        writes = λ g h offset new y k ok latest w. ((tt, tt), w);
+        truncates = λ g h size y k ok latest w. ((tt, tt), w);
+        ends = λ g h k latest w. (tt, w);
+        closes = λ g h y k found latest w. (tt, tt);
         sees_empty = λ g request h writes sight k is latest w.
             let none : sight.number ≡ 0 = found_ok vs past sight As_empty k.2 is in
             (((k.0, k.1), (((refl, k.1), ((λ e. (refl, refl)), (λ apart. absurd (apart none)))), tt)), tt);
@@ -135,18 +130,19 @@ module _ {V : Type 0} (s : Setup) (vs : Versions V) (past : History) (a : ℕ) w
             let there = found_ok vs past sight (On_clouds v) k.2 is in
             (((k.0, k.1), tt), ((there.0, k.1), λ e. there.1 (sym there.0 ∙ e)));
         turns_open = λ g o latest w. (tt, w);
-        hears_open = λ g o c request answer k awaited latest w. (tt, w);
+        hears_open = λ g o c request answer takes k awaited latest w. (tt, w);
         gets = λ g o clouds latest w. (tt, w);
-        shows = λ g o bytes latest w. (((w.0, ((λ e. absurd (w.1 e)), (λ apart. refl))), tt), tt);
+        loses = λ g o latest w. (tt, tt);
+        shows = λ g o bytes all latest w. (((w.0, ((λ e. absurd (w.1 e)), (λ apart. refl))), tt), tt);
         turns_upload = λ g x u latest w. (tt, w);
-        hears_upload = λ g x u c request answer k new latest w. (tt, w);
+        hears_upload = λ g x u c request answer k new few latest w. (tt, w);
         puts = λ g x u clouds k within latest w. (tt, w);
-        commits = λ g x u enough latest w. (tt, w);
-        drops = λ g x latest w. (tt, w);
+        commits = λ g x u c request answer k new just latest w. (tt, w);
+        drops = λ g x why latest w. (tt, tt);
         downs = λ g up k latest w. ((tt, tt), tt);
         ups = λ g up k latest w. ((tt, tt), w);
       }
 
   pub whole_reacted : (g : Agent V) (given : Given) (input : Input V) → is_up g.life ≡ has_up input → IsInput known input
       → Whole g (reacted s vs a g given input)
-  whole_reacted g given input up k = reacts s vs a known given Whole (moves given) (λ g x latest w. (tt, w)) g input up k
+  whole_reacted g given input up k = reacts s vs a known given Whole (moves given) (λ g x latest w. (tt, w)) tt g input up k

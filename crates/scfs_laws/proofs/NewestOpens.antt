@@ -1,5 +1,5 @@
 -- In every run of fewer than 2^24 events each open is of the newest version of its file.
-use Rattle.std.proofs.Common.{◌≡◌, ℕ, ◌+◌, ◌^◌, ◌<◌, List, [], ◌∷◌, length, Bool, true, false, cond, ◌||◌, refl, sym, subst, ap, ◌∙◌, Option, Some, None, Ok, Err, fold, arith, slice_get, slice_set, eqb, eqb-true, eq-eqb, true≢false}
+use Rattle.std.proofs.Common.{◌≡◌, ℕ, ◌+◌, ◌^◌, ◌<◌, List, [], ◌∷◌, length, Bool, true, false, cond, ◌||◌, refl, sym, subst, ap, ◌∙◌, Option, Some, None, IfSome, Ok, Err, fold, arith, slice_get, slice_set, eqb, eqb-true, eq-eqb, true≢false}
 use Rattle.std.specs.List.{list_any}
 use Rattle.scfs_schedule.specs.declared.types.Line.{Line}
 use Rattle.scfs_schedule.specs.declared.types.Line.TheVariants as lines
@@ -13,18 +13,19 @@ use Rattle.scfs_model.specs.Tree.{Tree, live}
 use Rattle.scfs_model.specs.Walks.{OrRefusal}
 use Rattle.scfs_model.specs.SessionSteps.{Sight, Session_step, Session_outcome, Sees, Locks, Completes, session_outcome}
 use Rattle.scfs_model.specs.Steps.{Step, On_names, On_locks, On_sessions, Of_sessions, Served, served}
-use Rattle.scfs_model.specs.Agents.{Waiting, For_step, For_clouds, For_close, Request, Input, Tells, Hears, Reaction}
+use Rattle.scfs_model.specs.Agents.{Request, Input, Tells, Hears, Reaction, Opening}
 use Rattle.scfs_model.specs.Reactions.{reacted}
 use Rattle.scfs_model.specs.Events.{At_agent, Call_comes, Turn_comes, Crash_comes, Start_comes, place_of}
 use Rattle.scfs_model.specs.States.{Reply, Seat, State, Effect, sum_of, first_seat, comes, serves, at_place}
 use Rattle.scfs_model.specs.Runs.{state_after, Follows, Happens, Run}
 use Rattle.scfs_laws.specs.TreeLaws.{CompletionKeeps}
 use Rattle.scfs_laws.specs.Newest.{Saw_line, is_service, after_commit, last_committed, before_service, latest_saw, WasNewest, AreShown, OpensNewest}
+use Rattle.scfs_laws.specs.Sound.{open_of}
 use Rattle.scfs_laws.proofs.Lists.{Each, Places, each-map, each-append, places_set, places_replicate}
 use Rattle.scfs_laws.proofs.NewestLines.{IsOfAgent, IsNoCommit, idle_of_agent, no_commit_of-agent, comes_of_agent, no_commits, no_services}
 use Rattle.scfs_laws.proofs.NewestTree.{TreeOk, tree_said}
 use Rattle.scfs_laws.proofs.NewestServes.{SeenAt, SeenBy, serve_tree, serve_seen}
-use Rattle.scfs_laws.proofs.NewestMoves.{after_says, WaitOk, SightOk, known, whole_reacted}
+use Rattle.scfs_laws.proofs.NewestMoves.{IsOpen, after_says, WaitOk, SightOk, known, whole_reacted}
 use Rattle.scfs_laws.proofs.NewestShown.{IsDull, idle_dull, step_dull, Goes, dull_goes, own_goes, other_goes}
 use Rattle.scfs_laws.proofs.Ways.{IsIdle, own_input, up_there, of_event}
 use Rattle.scfs_laws.proofs.Moves.{IsReply, reply_on, IsInput, has_up}
@@ -50,13 +51,11 @@ module _ {V : Type 0} (s : Setup) (vs : Versions V) where
     tree : TreeOk vs (λ id. last_committed id past) state.tree.nodes state.tree.versions
     seats : Places (SeatOk past) state.seats
 
-  wait_on : (past : History) (e : Entry) → ((saw : Saw_line) → WasNewest past saw → WasNewest (e ∷ past) saw) → (latest : Option Saw_line)
-      → (w : Option (Waiting V)) → WaitOk vs past latest w → WaitOk vs (e ∷ past) latest w
-  wait_on past e on latest None h = tt
-  wait_on past e on latest (Some For_step) h = tt
-  wait_on past e on None (Some (For_clouds o)) h = h
-  wait_on past e on (Some saw) (Some (For_clouds o)) h = ((h.0.0, on saw h.0.1), h.1)
-  wait_on past e on latest (Some For_close) h = tt
+  open_on : (past : History) (e : Entry) → ((saw : Saw_line) → WasNewest past saw → WasNewest (e ∷ past) saw) → (latest : Option Saw_line)
+      → (there : Option (Opening V)) → IfSome there (IsOpen vs past latest) → IfSome there (IsOpen vs (e ∷ past) latest)
+  open_on past e on latest None h = tt
+  open_on past e on None (Some o) h = h
+  open_on past e on (Some saw) (Some o) h = ((h.0.0, on saw h.0.1), h.1)
 
   replies_on : (past : History) (e : Entry) → ((saw : Saw_line) → WasNewest past saw → WasNewest (e ∷ past) saw) → (a : ℕ) (ys : List (Reply V))
       → Each (ReplyOk past a) ys → Each (ReplyOk (e ∷ past) a) ys
@@ -73,7 +72,7 @@ module _ {V : Type 0} (s : Setup) (vs : Versions V) where
     seat_on on b seat same g =
         record {
           waiting = subst (λ latest. WaitOk vs (e ∷ past) latest seat.agent.waiting) (sym same)
-              (wait_on past e on (latest_saw b past) seat.agent.waiting g.waiting);
+              (open_on past e on (latest_saw b past) (open_of seat.agent.waiting) g.waiting);
           replied = replies_on past e on b seat.replied g.replied;
         }
 
@@ -131,7 +130,7 @@ module _ {V : Type 0} (s : Setup) (vs : Versions V) where
             seats = places_set (SeatOk (e ∷ past)) state.seats a old _ found
                 (record {
                   waiting = subst (λ latest. WaitOk vs (e ∷ past) latest r.agent.waiting) (sym mine.1)
-                      (wait_on past e (on quiet) (after_says (latest_saw a past) r.says) r.agent.waiting whole.1);
+                      (open_on past e (on quiet) (after_says (latest_saw a past) r.says) (open_of r.agent.waiting) whole.1);
                   replied = replies_on past e (on quiet) a seat.replied g.replied;
                 })
                 (λ b other seat there. seat_on (on quiet) b seat (others b other).1 (h.seats b seat there));
@@ -242,7 +241,7 @@ module _ {V : Type 0} (s : Setup) (vs : Versions V) (keeps : CompletionKeeps vs)
     next_state =
         of_event s vs state given e.message (IsFine s vs past e state given h) (place_of e.event)
         (record {
-          nothing = λ shown idle same. still s vs past e state given h
+          nothing = λ shown idle bare same. still s vs past e state given h
               (subst (Each IsOfAgent) (sym same) (each-map IsIdle IsOfAgent idle_of_agent shown idle))
               (subst (Each IsDull) (sym same) (each-map IsIdle IsDull idle_dull shown idle));
           later = λ ticks same.
@@ -250,7 +249,7 @@ module _ {V : Type 0} (s : Setup) (vs : Versions V) (keeps : CompletionKeeps vs)
               (record { tree = k.0.tree; seats = k.0.seats }, k.1);
           gone = λ a seat request found same. set s vs past e state given h (subst (Each IsOfAgent) (sym same) (tt, tt))
               (subst (Each IsDull) (sym same) (tt, tt)) a seat seat found (h.seats a seat found);
-          missed = λ a seat oldest rest found is same.
+          missed = λ a seat oldest rest found is away same.
               let g = fewer s vs past e state given h a seat oldest rest found is in
               set s vs past e state given h (subst (Each IsOfAgent) (sym same) (tt, tt)) (subst (Each IsDull) (sym same) (tt, tt)) a seat _ found
               (record { waiting = g.waiting; replied = g.replied.1 });

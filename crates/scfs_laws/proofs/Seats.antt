@@ -96,10 +96,10 @@ module _ {V : Type 0} (s : Setup) (vs : Versions V) (state : State V) (given : G
     seats_kept =
         of_event s vs state given message Fine place
         (record {
-          nothing = λ quiet idle same sent. all_stay;
+          nothing = λ quiet idle bare same sent. all_stay;
           later = λ ticks same sent. all_stay;
           gone = λ a seat request found same sent. set a seat seat found (all_stay a seat found);
-          missed = λ a seat oldest rest found is same sent.
+          missed = λ a seat oldest rest found is away same sent.
               let h : IsSeat before a (record seat { replied = oldest ∷ rest }) = fewer a seat oldest rest found is in
               set a seat _ found (stays a (record seat { replied = rest }) (record { agent = h.agent; steps = h.steps; replies = h.replies.1 }));
           own = λ a seat x found is up. comes_fine a seat seat [] (own_input x) found (are a seat found) (λ same. k.own a seat x found (are a seat found).agent is up);

@@ -19,9 +19,10 @@ use Rattle.scfs_model.specs.Layers.{Version}
 use Rattle.scfs_model.specs.Walks.{OrRefusal}
 use Rattle.scfs_model.specs.SessionSteps.{Session_step, Commit, Session_outcome, Sees, Locks, Completes}
 use Rattle.scfs_model.specs.Steps.{Step, On_sessions, Outcome, Of_sessions}
-use Rattle.scfs_model.specs.Agents.{Opening, Waiting, For_clouds, Upload, Closed, Request, Agent, Sent}
+use Rattle.scfs_model.specs.Agents.{Opening, Waiting, Upload, Closed, Request, Agent, Sent}
 use Rattle.scfs_model.specs.Events.{At_agent, Call_comes, Turn_comes, Crash_comes, Start_comes, Answer_given, Place, Agent_has, Cloud_has}
 use Rattle.scfs_model.specs.States.{Reply, State}
+use Rattle.scfs_laws.specs.Sound.{open_of}
 use Rattle.scfs_laws.proofs.Lists.{Each}
 use Rattle.scfs_laws.proofs.Moves.{Known}
 use Rattle.scfs_laws.proofs.Seats.{Parts, AreSeats}
@@ -83,8 +84,7 @@ module _ (s : Setup) (Among : (c : ℕ) → (bytes : List ℕ) → Type 0) where
   IsOpening o = IsReading o.version o.reading.root o.reading.pieces
 
   abbrev pub IsWaiting : Option (Waiting Version) → Type 0
-  IsWaiting (Some (For_clouds o)) = IsOpening o
-  IsWaiting other = Unit {0}
+  IsWaiting w = IfSome (open_of w) IsOpening
 
   abbrev pub IsUpload : Upload Version → Type 0
   IsUpload u = IsVersion u.version
@@ -145,6 +145,7 @@ module _ (s : Setup) (Among : (c : ℕ) → (bytes : List ℕ) → Type 0) where
         turn = Unit {0};
         crash = Unit {0};
         start = Unit {0};
+        takes = Unit {0};
       }
 
   -- a request whose object, where it puts one, is among them

@@ -12,15 +12,15 @@ use Rattle.scfs_model.specs.Given.{Given}
 use Rattle.scfs_model.specs.Asked.{Asked, asked_of}
 use Rattle.scfs_model.specs.SessionSteps.{Open_read, Open_write, Commit, Sight}
 use Rattle.scfs_model.specs.Steps.{Step, On_names, On_locks, On_sessions}
-use Rattle.scfs_model.specs.Agents.{Waiting, For_step, For_clouds, For_close, Closed, Agent, Input, Reaction}
+use Rattle.scfs_model.specs.Agents.{Closed, Agent, Input, Reaction}
 use Rattle.scfs_model.specs.Opens.{Found, As_empty, On_clouds, found_version, found}
 use Rattle.scfs_model.specs.Closes.{begins}
 use Rattle.scfs_model.specs.Reactions.{reacted}
 use Rattle.scfs_laws.proofs.Lists.{Each, chosen, each-append, each-front, each-back}
-use Rattle.scfs_laws.proofs.SoundKept.{IsSession, IsVersion, IsSent, IsClosed, IsStep, IsRequest, IsWaiting, IsAgent, known}
+use Rattle.scfs_laws.proofs.SoundKept.{IsSession, IsVersion, IsSent, IsClosed, IsStep, IsRequest, IsAgent, known}
 use Rattle.scfs_laws.proofs.SoundContents.{IsChanged, no_contents, opened_fits, there_fits, ended_fits, after_fits, write_fits, truncate_fits}
 use Rattle.scfs_laws.proofs.SoundPieces.{none_good, heard_good}
-use Rattle.scfs_laws.proofs.Moves.{IsInput, has_up, IsCommon, IsReading, closing, Moves, reacts}
+use Rattle.scfs_laws.proofs.Moves.{IsInput, has_up, IsCommon, closing, Moves, reacts}
 
 module _ (s : Setup) (Among : (c : ℕ) → (bytes : List ℕ) → Type 0) (a : ℕ) where
   -- where the objects that are put are among those looked at
@@ -46,12 +46,6 @@ module _ (s : Setup) (Among : (c : ℕ) → (bytes : List ℕ) → Type 0) (a : 
   common_step (On_sessions (Open_write names h)) common = tt
   common_step (On_sessions (Commit h v)) common = absurd common
 
-  wait_free : (w : Option (Waiting Version)) → ¬ IsReading w → IsWaiting s Among w
-  wait_free None free = tt
-  wait_free (Some For_step) free = tt
-  wait_free (Some (For_clouds o)) free = absurd (free tt)
-  wait_free (Some For_close) free = tt
-
   abbrev IsFound : Found Version → Type 0
   IsFound As_empty = Unit {0}
   IsFound (On_clouds v) = IsVersion s Among v
@@ -69,37 +63,40 @@ module _ (s : Setup) (Among : (c : ℕ) → (bytes : List ℕ) → Type 0) (a : 
   moves given =
       record {
         still = λ g k sent. (k, tt);
-        follow = λ g first second one two k sent.
+        follow = λ g first second order one two k sent.
             let h = one k (each-front (IsSent s Among) first.sent second.sent sent) in
             let n = two h.0 (each-back (IsSent s Among) first.sent second.sent sent) in
             (n.0, each-append (IsRequest s Among) first.steps second.steps h.1 n.1);
         aside = λ g life leases tallies opens same k sent. (k, tt);
         told = λ g request k sent. (k, tt);
-        waits = λ g w free k sent. ((wait_free w free, k.1, k.2), tt);
+        frees = λ g takes k sent. ((tt, k.1, k.2), tt);
         says_plain = λ g x plain k sent. (k, tt);
-        asks = λ g step common k sent. (k, (common_step step common, tt));
-        makes = λ g path names w k sent. (k, (tt, tt));
+        asks = λ g x k sent. (k, (tt, tt));
+        steps = λ g step common k sent. ((tt, k.1, k.2), (common_step step common, tt));
+        makes = λ g path names w k sent. ((tt, k.1, k.2), (tt, tt));
+        reads = λ g h offset count bytes w ok k sent. (k, tt);
         writes = λ g h offset new y w ok k sent.
             ((k.0, after_fits g.sessions h k.1 y (subst IsChanged ok (write_fits g.sessions h k.1 offset new w)), k.2), tt);
-        truncates = λ g h size y ok k sent. ((k.0, after_fits g.sessions h k.1 y (subst IsChanged ok (truncate_fits g.sessions h k.1 size)), k.2), tt);
-        ends = λ g h k sent. ((k.0, ended_fits g.sessions h k.1, k.2), tt);
-        closes = λ g h y found k sent.
+        truncates = λ g h size y w ok k sent. ((k.0, after_fits g.sessions h k.1 y (subst IsChanged ok (truncate_fits g.sessions h k.1 size)), k.2), tt);
+        ends = λ g h w k sent. ((k.0, ended_fits g.sessions h k.1, k.2), tt);
+        closes = λ g h y w found k sent.
             let fits : IsSession y = subst (λ o. IfSome o IsSession) found (there_fits g.sessions h k.1) in
-            ((k.0, ended_fits g.sessions h k.1, each-append (IsClosed s Among) g.closed _ k.2 ((fits, tt), tt)), tt);
+            ((tt, ended_fits g.sessions h k.1, each-append (IsClosed s Among) g.closed _ k.2 ((fits, tt), tt)), tt);
         sees_empty = λ g request h writes sight v is k sent. ((tt, opened_fits g.sessions h k.1 _ no_contents, k.2), tt);
         sees_version = λ g request h writes sight v there is k sent.
             ((record { version = seen_version sight v there is; rooted = refl; good = none_good s Among _ }, k.1, k.2), tt);
         turns_open = λ g o k sent. (k, tt);
-        hears_open = λ g o c request answer heard awaited k sent.
+        hears_open = λ g o c request answer takes heard awaited k sent.
             let good = heard_good s Among o.reading c request answer k.0.good heard awaited in
             ((record { version = k.0.version; rooted = k.0.rooted; good = good }, k.1, k.2), tt);
         gets = λ g o clouds k sent. (k, tt);
-        shows = λ g o bytes k sent. ((tt, opened_fits g.sessions o.session k.1 _ k.0.version.fits, k.2), tt);
+        loses = λ g o k sent. ((tt, k.1, k.2), tt);
+        shows = λ g o bytes all k sent. ((tt, opened_fits g.sessions o.session k.1 _ k.0.version.fits, k.2), tt);
         turns_upload = λ g x u k sent. (k, tt);
-        hears_upload = λ g x u c request answer heard new k sent. (k, tt);
+        hears_upload = λ g x u c request answer heard new few k sent. (k, tt);
         puts = λ g x u clouds turn within k sent. (k, tt);
-        commits = λ g x u enough k sent. (k, (k.2.0.1, tt));
-        drops = λ g x k sent. ((k.0, k.1, k.2.1), tt);
+        commits = λ g x u c request answer heard new just k sent. (k, (k.2.0.1, tt));
+        drops = λ g x why k sent. ((tt, k.1, k.2.1), tt);
         downs = λ g up crash k sent. ((tt, All-nil IsSession, tt), tt);
         ups = λ g up start k sent. (k, tt);
       }
@@ -115,4 +112,4 @@ module _ (s : Setup) (Among : (c : ℕ) → (bytes : List ℕ) → Type 0) (a : 
 
   pub reacted_keeps : (g : Agent Version) (given : Given) (input : Input Version) → is_up g.life ≡ has_up input → IsInput (known s Among) input
       → Keeps g (reacted s (closes s) a g given input)
-  reacted_keeps g given input up k = reacts s (closes s) a (known s Among) given Keeps (moves given) begins_keeps g input up k
+  reacted_keeps g given input up k = reacts s (closes s) a (known s Among) given Keeps (moves given) begins_keeps tt g input up k

@@ -1,5 +1,5 @@
 -- An event keeps what holds of the file map, and what it gives an open is what was closed.
-use Rattle.std.proofs.Common.{◌≡◌, ℕ, ◌+◌, List, [], ◌∷◌, Option, Some, None, Ok, Err, slice_get, ◌++◌, length, refl, subst, arith, Bool, true, false, length-append, eqb-true}
+use Rattle.std.proofs.Common.{◌≡◌, ℕ, ◌+◌, List, [], ◌∷◌, Option, Some, None, Ok, Err, slice_get, ◌++◌, length, refl, subst, arith, Bool, true, false, length-append, eqb-true, IfSome}
 use Rattle.std.specs.Prelude.{◌-◌, ◌==◌, if◌then◌else◌, option_to_list}
 use Rattle.scfs_base.specs.declared.naming.RequestNo.{RequestNo}
 use Rattle.scfs_base.specs.declared.cloud.CloudAnswer.{CloudAnswer}
@@ -9,15 +9,15 @@ use Rattle.scfs_model.specs.History.{Message, Of_answer}
 use Rattle.scfs_model.specs.Layers.{Version, closes}
 use Rattle.scfs_model.specs.Given.{Given}
 use Rattle.scfs_model.specs.Next.{Goes_on, Has}
-use Rattle.scfs_model.specs.Reading.{piece_in, read_on}
+use Rattle.scfs_model.specs.Reading.{is_awaited, piece_in, read_on}
 use Rattle.scfs_model.specs.Tree.{Tree, live, session_lock, node_at}
 use Rattle.scfs_model.specs.Walks.{OrRefusal, on_ok, file_at, free_file_at}
 use Rattle.scfs_model.specs.SessionSteps.{Session_step, Open_read, Open_write, Commit, Session_outcome, Sees, Locks, Completes, session_outcome, session_after, still_held}
 use Rattle.scfs_model.specs.Steps.{Step, On_sessions, Outcome, Of_names, Of_locks, Of_sessions, after_ok, served}
-use Rattle.scfs_model.specs.Agents.{Agent, Tells, Hears, Opening, Waiting, For_clouds}
+use Rattle.scfs_model.specs.Agents.{Agent, Tells, Hears, Opening}
 use Rattle.scfs_model.specs.Events.{At_agent, Call_comes, Turn_comes, Crash_comes, Start_comes, Answer_given, Place, Agent_has, Cloud_has}
 use Rattle.scfs_model.specs.States.{Seat, State, Effect, at_place}
-use Rattle.scfs_laws.specs.Sound.{FitsRead, FitsHeard, FitsAt, FitsGiven, FitsPlace, WasClosed}
+use Rattle.scfs_laws.specs.Sound.{open_of, FitsRead, FitsAt, FitsGiven, FitsPlace, WasClosed}
 use Rattle.scfs_laws.proofs.Lists.{Each, each-append, each-find}
 use Rattle.scfs_laws.proofs.SoundKept.{IsVersion, IsStep, IsSessionStep, IsRequest, IsSessionOutcome, IsOk, IsOutcome, IsState, IsSent, IsGiven, IsPlace, AreGood, IsOpening, IsWaiting, IsHeard, parts, known}
 use Rattle.scfs_laws.proofs.SoundPieces.{heard_good}
@@ -68,10 +68,10 @@ module _ (s : Setup) (Among : (c : ℕ) → (bytes : List ℕ) → Type 0) where
     versions_keep =
         of_event s (closes s) state given m (λ x. Each (IsVersion s Among) x.state.tree.versions) place
         (record {
-          nothing = λ shown idle. is.0;
+          nothing = λ shown idle bare. is.0;
           later = λ ticks. is.0;
           gone = λ a seat request found. is.0;
-          missed = λ a seat oldest rest found e. is.0;
+          missed = λ a seat oldest rest found e away. is.0;
           own = λ a seat x found at up. is.0;
           hears = λ c request answer seat found at about there. is.0;
           told = λ a seat oldest rest found e there. is.0;
@@ -135,16 +135,18 @@ module _ (s : Setup) (Among : (c : ℕ) → (bytes : List ℕ) → Type 0) (give
       gives_back o.version pieces h.version (subst (λ root. AreGood s Among root pieces) h.rooted good)
       (omega (arith, length-append o.reading.pieces (piece ∷ []), eqb-true (length o.reading.pieces) s.header.f enough)))
 
-  heard_fits : (c : ℕ) (request : RequestNo) (answer : CloudAnswer) (waiting : Option (Waiting Version)) → IsHeard s Among c answer
-      → IsWaiting s Among waiting → FitsHeard s WasClosed c request answer waiting
-  heard_fits c request answer (Some (For_clouds o)) heard h =
+  heard_fits : (c : ℕ) (request : RequestNo) (answer : CloudAnswer) (there : Option (Opening Version)) → IsHeard s Among c answer
+      → IfSome there (IsOpening s Among)
+      → IfSome there (λ (o : Opening Version). is_awaited o.reading c request ≡ true
+      → FitsRead s WasClosed o.version (read_on s o.reading (piece_in s o.reading c answer)))
+  heard_fits c request answer None heard h = tt
+  heard_fits c request answer (Some o) heard h =
       λ counts. read_fits o (piece_in s o.reading c answer) h (heard_good s Among o.reading c request answer h.good heard counts)
-  heard_fits c request answer other heard h = tt
 
   at_fits : (c : ℕ) (request : RequestNo) (answer : CloudAnswer) (there : Option (Seat Version)) → IsHeard s Among c answer
       → ((seat : Seat Version) → there ≡ Some seat → IsWaiting s Among seat.agent.waiting) → FitsAt s WasClosed c request answer there
   at_fits c request answer None heard h = tt
-  at_fits c request answer (Some seat) heard h = heard_fits c request answer seat.agent.waiting heard (h seat refl)
+  at_fits c request answer (Some seat) heard h = heard_fits c request answer (open_of seat.agent.waiting) heard (h seat refl)
 
   module _ (state : State Version) (is : IsState s Among state) where
     given_fits : (c : ℕ) (m : Option Message) → IsGiven s Among c m → FitsGiven s WasClosed state c m

@@ -29,6 +29,12 @@ IsIdle (lines.Did c request sum) = Unit {0}
 IsIdle (lines.Gave c request sum) = Unit {0}
 IsIdle other = ⊥
 
+-- one that tells of no answer to an agent
+abbrev pub IsStill : Line → Type 0
+IsStill lines.Skip = Unit {0}
+IsStill (lines.Did c request sum) = Unit {0}
+IsStill other = ⊥
+
 -- what an agent has of its own accord
 abbrev pub own_input : {V : Type 0} → At_agent → Input V
 own_input (Call_comes call) = Calls call
@@ -44,12 +50,12 @@ up_there g request there = (and_parts (is_up g.life) (g.incarnation == request.i
 module _ {V : Type 0} (s : Setup) (vs : Versions V) (state : State V) (given : Given) (message : Option Message) (Q : Effect V → Type 0) where
   -- what each of the ways has
   pub record Ways (place : Place) : Type 0 where
-    pub nothing : (shown : List Line) → Each IsIdle shown → Q (leaving state shown)
+    pub nothing : (shown : List Line) → Each IsIdle shown → Each IsStill shown → Q (leaving state shown)
     pub later : (ticks : ℕ) → Q (leaving (record state { clock = state.clock + ticks }) [])
     pub gone : (a : ℕ) (seat : Seat V) (request : RequestNo) → slice_get state.seats a ≡ Some seat
         → Q (leaving (with_seat state a seat) (lines.Gone request ∷ []))
     pub missed : (a : ℕ) (seat : Seat V) (oldest : Reply V) (rest : List (Reply V)) → slice_get state.seats a ≡ Some seat
-        → seat.replied ≡ oldest ∷ rest
+        → seat.replied ≡ oldest ∷ rest → is_there seat.agent oldest.number ≡ false
         → Q (leaving (with_seat state a (record seat { replied = rest })) (lines.Gone oldest.number ∷ []))
     pub own : (a : ℕ) (seat : Seat V) (x : At_agent) → slice_get state.seats a ≡ Some seat → place ≡ Agent_has a x
         → is_up seat.agent.life ≡ has_up {V = V} (own_input x)
@@ -82,30 +88,30 @@ module _ {V : Type 0} (s : Setup) (vs : Versions V) (state : State V) (given : G
   of_agent : (a : ℕ) (x : At_agent) (seat : Seat V) → Ways (Agent_has a x) → slice_get state.seats a ≡ Some seat
       → Q (at_agent s vs state given a x seat)
   of_agent a (Call_comes call) seat ways found =
-      either (is_up seat.agent.life) _ _ (ways.own a seat (Call_comes call) found refl) (λ down. ways.nothing _ (tt, tt))
+      either (is_up seat.agent.life) _ _ (ways.own a seat (Call_comes call) found refl) (λ down. ways.nothing _ (tt, tt) (tt, tt))
   of_agent a Turn_comes seat ways found =
-      either (is_up seat.agent.life) _ _ (ways.own a seat Turn_comes found refl) (λ down. ways.nothing _ (tt, tt))
+      either (is_up seat.agent.life) _ _ (ways.own a seat Turn_comes found refl) (λ down. ways.nothing _ (tt, tt) (tt, tt))
   of_agent a Crash_comes seat ways found =
-      either (is_up seat.agent.life) _ _ (ways.own a seat Crash_comes found refl) (λ down. ways.nothing _ (tt, tt))
+      either (is_up seat.agent.life) _ _ (ways.own a seat Crash_comes found refl) (λ down. ways.nothing _ (tt, tt) (tt, tt))
   of_agent a Start_comes seat ways found =
       either (not (is_up seat.agent.life)) _ _ (λ down. ways.own a seat Start_comes found refl (not_down (is_up seat.agent.life) down))
-      (λ up. ways.nothing _ (tt, tt))
+      (λ up. ways.nothing _ (tt, tt) (tt, tt))
 
   of_serves : (a : ℕ) (seat : Seat V) (asked : List (Request V)) → Ways (Space_has a Step_served) → slice_get state.seats a ≡ Some seat
       → seat.asked ≡ asked → Q (serves s vs state a seat asked)
-  of_serves a seat [] ways found e = ways.nothing _ (tt, tt)
+  of_serves a seat [] ways found e = ways.nothing _ (tt, tt) (tt, tt)
   of_serves a seat (oldest ∷ rest) ways found e = ways.serve a seat oldest rest found e refl
 
   of_postpones : (a : ℕ) (seat : Seat V) (asked : List (Request V)) → Ways (Space_has a Step_postponed) → slice_get state.seats a ≡ Some seat
       → seat.asked ≡ asked → Q (postpones state a seat asked)
-  of_postpones a seat [] ways found e = ways.nothing _ (tt, tt)
+  of_postpones a seat [] ways found e = ways.nothing _ (tt, tt) (tt, tt)
   of_postpones a seat (oldest ∷ rest) ways found e = ways.postpone a seat oldest rest found e
 
   of_tells : (a : ℕ) (seat : Seat V) (replied : List (Reply V)) → Ways (Space_has a Reply_told) → slice_get state.seats a ≡ Some seat
       → seat.replied ≡ replied → Q (tells s vs state a given seat replied)
-  of_tells a seat [] ways found e = ways.nothing _ (tt, tt)
+  of_tells a seat [] ways found e = ways.nothing _ (tt, tt) (tt, tt)
   of_tells a seat (oldest ∷ rest) ways found e =
-      either (is_there seat.agent oldest.number) _ _ (ways.told a seat oldest rest found e) (λ away. ways.missed a seat oldest rest found e)
+      either (is_there seat.agent oldest.number) _ _ (ways.told a seat oldest rest found e) (ways.missed a seat oldest rest found e)
 
   of_space : (a : ℕ) (x : At_space) (seat : Seat V) → Ways (Space_has a x) → slice_get state.seats a ≡ Some seat
       → Q (at_space s vs state given a x seat)
@@ -114,25 +120,25 @@ module _ {V : Type 0} (s : Setup) (vs : Versions V) (state : State V) (given : G
   of_space a Reply_told seat ways found = of_tells a seat seat.replied ways found refl
 
   of_answers : (c : ℕ) (m : Option Message) → Ways (Cloud_has c Request_answered) → Q (answers_by s state c m)
-  of_answers c None ways = ways.nothing _ (tt, tt)
-  of_answers c (Some (Of_request request)) ways = ways.nothing _ tt
-  of_answers c (Some (Of_answer request answer)) ways = ways.nothing _ (tt, tt)
+  of_answers c None ways = ways.nothing _ (tt, tt) (tt, tt)
+  of_answers c (Some (Of_request request)) ways = ways.nothing _ tt tt
+  of_answers c (Some (Of_answer request answer)) ways = ways.nothing _ (tt, tt) (tt, tt)
 
   of_gives : (c : ℕ) (m : Option Message) → message ≡ m → Ways (Cloud_has c Answer_given) → Q (gives s vs state given c m)
-  of_gives c None e ways = ways.nothing _ (tt, tt)
-  of_gives c (Some (Of_request request)) e ways = ways.nothing _ tt
+  of_gives c None e ways = ways.nothing _ (tt, tt) (tt, tt)
+  of_gives c (Some (Of_request request)) e ways = ways.nothing _ tt tt
   of_gives c (Some (Of_answer request answer)) e ways =
-      of_seat (slice_get state.seats request.agent) _ _ (ways.nothing _ tt) (λ seat found.
+      of_seat (slice_get state.seats request.agent) _ _ (ways.nothing _ tt tt) (λ seat found.
       either (is_there seat.agent request) _ _ (ways.hears c request answer seat found refl e) (λ away. ways.gone request.agent seat request found))
 
   of_moves : (c : ℕ) (m : Option Message) → Ways (Cloud_has c Message_moved) → Q (moves state m)
-  of_moves c None ways = ways.nothing _ (tt, tt)
-  of_moves c (Some m) ways = ways.nothing _ tt
+  of_moves c None ways = ways.nothing _ (tt, tt) (tt, tt)
+  of_moves c (Some m) ways = ways.nothing _ tt tt
 
   -- an event goes one of these ways
   pub of_event : (place : Place) → Ways place → Q (at_place s vs state message given place)
-  of_event (Agent_has a x) ways = of_seat (slice_get state.seats a) _ _ (ways.nothing _ tt) (λ seat found. of_agent a x seat ways found)
-  of_event (Space_has a x) ways = of_seat (slice_get state.seats a) _ _ (ways.nothing _ tt) (λ seat found. of_space a x seat ways found)
+  of_event (Agent_has a x) ways = of_seat (slice_get state.seats a) _ _ (ways.nothing _ tt tt) (λ seat found. of_agent a x seat ways found)
+  of_event (Space_has a x) ways = of_seat (slice_get state.seats a) _ _ (ways.nothing _ tt tt) (λ seat found. of_space a x seat ways found)
   of_event (Cloud_has c Request_answered) ways = of_answers c message ways
   of_event (Cloud_has c Answer_given) ways = of_gives c message refl ways
   of_event (Cloud_has c Message_moved) ways = of_moves c message ways
@@ -149,10 +155,10 @@ module _ {V : Type 0} (s : Setup) (vs : Versions V) (T : Tree V → Type 0)
       let before : T state.tree = tree_always first past in
       of_event s vs state (given_of state.clock e) e.message (λ x. T x.state.tree) (place_of e.event)
       (record {
-        nothing = λ shown idle. before;
+        nothing = λ shown idle still. before;
         later = λ ticks. before;
         gone = λ a seat request found. before;
-        missed = λ a seat oldest rest found is. before;
+        missed = λ a seat oldest rest found is away. before;
         own = λ a seat x found is up. before;
         hears = λ c request answer seat found is about there. before;
         told = λ a seat oldest rest found is there. before;

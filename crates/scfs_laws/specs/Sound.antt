@@ -1,17 +1,24 @@
-use Rattle.std.specs.Prelude.{◌≡◌, ℕ, List, [], ◌∷◌, true, Option, Some, None, slice_get}
+use Rattle.std.specs.Prelude.{◌≡◌, ℕ, List, [], ◌∷◌, true, Option, Some, None, IfSome, slice_get}
 use Rattle.scfs_base.specs.declared.naming.RequestNo.{RequestNo}
 use Rattle.scfs_base.specs.declared.cloud.CloudAnswer.{CloudAnswer}
 use Rattle.scfs_model.specs.Format.{Setup}
 use Rattle.scfs_model.specs.History.{Message, Of_request, Of_answer, History}
 use Rattle.scfs_model.specs.Next.{Next, Goes_on, Asks, Has, Gives_up}
 use Rattle.scfs_model.specs.Reading.{is_awaited, piece_in, read_on}
-use Rattle.scfs_model.specs.Agents.{Waiting, For_step, For_clouds, For_close}
+use Rattle.scfs_model.specs.Agents.{Opening, Waiting, For_step, For_clouds, For_close}
 use Rattle.scfs_model.specs.Events.{Place, Agent_has, Space_has, Cloud_has, Clock_has, Request_answered, Answer_given, Message_moved, place_of}
 use Rattle.scfs_model.specs.States.{Seat, State}
 use Rattle.scfs_model.specs.Layers.{Version}
 use Rattle.scfs_model.specs.Runs.{mapped}
 
 -- What an open got from the clouds for its version fits the version.
+
+-- the open that an agent reads from the clouds, of what it waits for
+abbrev pub open_of : {V : Type 0} → Option (Waiting V) → Option (Opening V)
+open_of None = None
+open_of (Some For_step) = None
+open_of (Some (For_clouds o)) = Some o
+open_of (Some For_close) = None
 
 module _ {V : Type 0} (s : Setup) (Fits : V → (bytes : List ℕ) → Type 0) where
   abbrev pub FitsRead : V → Next (List ℕ) → Type 0
@@ -20,13 +27,11 @@ module _ {V : Type 0} (s : Setup) (Fits : V → (bytes : List ℕ) → Type 0) w
   FitsRead v (Has bytes) = Fits v bytes
   FitsRead v (Gives_up good) = Unit {0}
 
-  -- where what an agent waits for is given an answer
+  -- where the open that an agent reads is given an answer
   abbrev pub FitsHeard : (c : ℕ) → RequestNo → CloudAnswer → Option (Waiting V) → Type 0
-  FitsHeard c request answer None = Unit {0}
-  FitsHeard c request answer (Some For_step) = Unit {0}
-  FitsHeard c request answer (Some (For_clouds o)) =
-      is_awaited o.reading c request ≡ true → FitsRead o.version (read_on s o.reading (piece_in s o.reading c answer))
-  FitsHeard c request answer (Some For_close) = Unit {0}
+  FitsHeard c request answer w =
+      IfSome (open_of w) (λ (o : Opening V).
+      is_awaited o.reading c request ≡ true → FitsRead o.version (read_on s o.reading (piece_in s o.reading c answer)))
 
   abbrev pub FitsAt : (c : ℕ) → RequestNo → CloudAnswer → Option (Seat V) → Type 0
   FitsAt c request answer None = Unit {0}

@@ -121,6 +121,7 @@ anything =
       turn = Unit {0};
       crash = Unit {0};
       start = Unit {0};
+      takes = Unit {0};
     }
 
 module _ (s : Setup) (a : ℕ) (given : Given) where
@@ -131,28 +132,31 @@ module _ (s : Setup) (a : ℕ) (given : Given) where
   moves =
       record {
         still = λ g. stays (drawn_of g);
-        follow = λ g first second. follows (drawn_of g) (drawn_of first.agent) (drawn_of second.agent) first.steps second.steps;
+        follow = λ g first second order. follows (drawn_of g) (drawn_of first.agent) (drawn_of second.agent) first.steps second.steps;
         aside = λ g life leases tallies opens same. stays (drawn_of g);
         told = λ g request. fewer (drawn_of g) _ (λ r h. h) (λ P. each_without P (λ (x : Request Row). same_request x.number request) g.pending);
-        waits = λ g w free. stays (drawn_of g);
+        frees = λ g takes. stays (drawn_of g);
         says_plain = λ g x plain. stays (drawn_of g);
-        asks = λ g step common. asks a (drawn_of g) step;
+        asks = λ g x. asks a (drawn_of g) _;
+        steps = λ g step common. asks a (drawn_of g) step;
         makes = λ g path names k. asks a (drawn_of g) _;
+        reads = λ g h offset count bytes k ok. stays (drawn_of g);
         writes = λ g h offset new y k ok. stays (drawn_of g);
-        truncates = λ g h size y ok. stays (drawn_of g);
-        ends = λ g h. stays (drawn_of g);
-        closes = λ g h y found. stays (drawn_of g);
+        truncates = λ g h size y k ok. stays (drawn_of g);
+        ends = λ g h k. stays (drawn_of g);
+        closes = λ g h y k found. stays (drawn_of g);
         sees_empty = λ g request h writes sight k is. stays (drawn_of g);
         sees_version = λ g request h writes sight v k is. draws (drawn_of g) _;
         turns_open = λ g o. stays (drawn_of g);
-        hears_open = λ g o c request answer k awaited. stays (drawn_of g);
+        hears_open = λ g o c request answer takes k awaited. stays (drawn_of g);
         gets = λ g o clouds. draws (drawn_of g) _;
-        shows = λ g o bytes. stays (drawn_of g);
+        loses = λ g o. stays (drawn_of g);
+        shows = λ g o bytes all. stays (drawn_of g);
         turns_upload = λ g x u. stays (drawn_of g);
-        hears_upload = λ g x u c request answer k new. stays (drawn_of g);
+        hears_upload = λ g x u c request answer k new few. stays (drawn_of g);
         puts = λ g x u clouds k within. draws (drawn_of g) _;
-        commits = λ g x u enough. asks a (drawn_of g) _;
-        drops = λ g x. stays (drawn_of g);
+        commits = λ g x u c request answer k new just. asks a (drawn_of g) _;
+        drops = λ g x why. stays (drawn_of g);
         downs = λ g up k. fewer (drawn_of g) _ (λ r h. h) (λ P h. tt);
         ups = λ g down k. fewer (drawn_of g) _ (λ r h. (omega (arith, h.0), λ l. absurd (omega (arith, l, h.0)))) (λ P h. h);
       }
@@ -162,7 +166,7 @@ module _ (s : Setup) (a : ℕ) (given : Given) where
   seat_reacted seat input up known h =
       let r : Reaction Row = reacted s rows a seat.agent given input in
       let k : Keeps (drawn_of seat.agent) (drawn_of r.agent) r.steps =
-      reacts s rows a anything given Does moves (λ g x. draws (drawn_of g) _) seat.agent input up known h.pending in
+      reacts s rows a anything given Does moves (λ g x. draws (drawn_of g) _) tt seat.agent input up known h.pending in
       record {
         pending = k.drew;
         asked = each-append _ seat.asked r.steps (each-map _ _ (λ x. k.on x.number x.step) seat.asked h.asked) k.new;

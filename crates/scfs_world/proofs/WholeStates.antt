@@ -74,10 +74,10 @@ kept_after s (e ∷ past) =
     let kept : Places SeatKept state.seats = kept_after s past in
     of_event s rows state given e.message (λ x. Places SeatKept x.state.seats) (place_of e.event)
     (record {
-      nothing = λ shown idle. kept;
+      nothing = λ shown idle bare. kept;
       later = λ ticks. kept;
       gone = λ a seat request found. set s state given kept a seat seat found (kept a seat found);
-      missed = λ a seat oldest rest found is. set s state given kept a seat _ found (told s state given kept a seat oldest rest found is);
+      missed = λ a seat oldest rest found is away. set s state given kept a seat _ found (told s state given kept a seat oldest rest found is);
       own = λ a seat x found at up. come s state given kept a seat seat (own_input x) found up (own_known x) (kept a seat found);
       hears = λ c request answer seat found at about there. come s state given kept request.agent seat seat (Hears c request answer) found
           (up_there seat.agent request there) tt (kept request.agent seat found);
