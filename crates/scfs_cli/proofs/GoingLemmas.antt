@@ -1,6 +1,6 @@
 -- A run that goes on, event by event, and how it ends.
-use Rattle.std.proofs.Common.{◌≡◌, ◌≤◌, ◌^◌, ◌<◌, ℕ, ◌+◌, List, [], ◌∷◌, ◌++◌, false, true, refl, ap, ◌∙◌, sym, subst, Option, Some, None, length, arith, append_assoc, append-nil, length-append}
-use Rattle.scfs_base.specs.Outside.{Takes, Puts}
+use Rattle.std.proofs.Common.{◌≡◌, ℕ, ◌+◌, List, [], ◌∷◌, ◌++◌, false, true, refl, ap, ◌∙◌, sym, subst, Option, Some, None, length, arith, append_assoc, append-nil, length-append}
+use Rattle.scfs_base.specs.Outside.{Takes}
 use Rattle.scfs_policy.specs.declared.rank.RankFacts.{RankFacts}
 use Rattle.scfs_schedule.specs.declared.types.Ending.{Ending}
 use Rattle.scfs_schedule.specs.declared.types.Event.{Event}
@@ -22,7 +22,7 @@ use Rattle.scfs_cli.specs.Finishing.{EndsWith, IsTooLargeNext}
 use Rattle.scfs_cli.specs.Giving.{Draws, GivesNext, WaitedFor}
 use Rattle.scfs_cli.specs.Playing.{Playing, before_event, events_played, finish_at, finished, header_lines, played, under_header, unless_finished}
 use Rattle.scfs_cli.specs.Plays.{IsNext, Known, Plays, Ran, SoFar, entry_text, finish_of, with_past}
-use Rattle.scfs_cli.proofs.EdgeLemmas.{passes_on, passes_part, passes_then, then_part}
+use Rattle.scfs_cli.proofs.EdgeLemmas.{passes_part, passes_then, then_part}
 use Rattle.scfs_cli.proofs.PaceLemmas.{pace_event, pace_out}
 use Rattle.scfs_cli.proofs.PlayedLemmas.{AllPlayed, Leads, Says, after_past, ends_finished, ends_large, ends_part, leads, leads_to_end, leads_to_event, states_header}
 use Rattle.scfs_cli.proofs.RunLemmas.{Asked, asked_more, asked_next, ran, ran_fault}

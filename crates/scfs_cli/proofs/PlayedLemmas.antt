@@ -1,5 +1,5 @@
 -- What is played of a text whose first events are those of a history.
-use Rattle.std.proofs.Common.{◌≡◌, ℕ, ◌+◌, suc, List, [], ◌∷◌, refl, ap, ◌∙◌, sym, subst, Option, Some, None, length, arith, Bool, true, false, if◌then◌else◌, inl, inr}
+use Rattle.std.proofs.Common.{◌≡◌, ℕ, ◌+◌, suc, List, [], ◌∷◌, refl, ap, ◌∙◌, sym, subst, Option, Some, None, length, arith, Bool, true, if◌then◌else◌, inl, inr}
 use Rattle.std.specs.Prelude.{IfSome}
 use Rattle.scfs_policy.specs.declared.rank.RankFacts.{RankFacts}
 use Rattle.scfs_schedule.specs.declared.types.Event.{Event}
@@ -7,7 +7,7 @@ use Rattle.scfs_schedule.specs.declared.types.Header.{Header}
 use Rattle.scfs_schedule.specs.declared.types.Ending.{Ending}
 use Rattle.scfs_schedule.specs.Reading.{Read, stopped, with_event, with_header}
 use Rattle.scfs_world.specs.Built.{is_built_header}
-use Rattle.scfs_model.specs.History.{Entry, History, events_then}
+use Rattle.scfs_model.specs.History.{History, events_then}
 use Rattle.scfs_cli.specs.declared.closing.Finish.{Finish}
 use Rattle.scfs_cli.specs.declared.closing.Finish.TheVariants as finishes
 use Rattle.scfs_cli.specs.Finishing.{IsTooLargeNext, EndsWith}

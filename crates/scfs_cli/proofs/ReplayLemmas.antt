@@ -1,6 +1,6 @@
 -- What a run comes to once nothing waits, and with its last line.
 use Rattle.std.proofs.Common.{◌≡◌, ◌≢◌, ℕ, List, [], ◌∷◌, ◌++◌, false, refl, ap, ◌∙◌, sym, subst, ⊎_elim, Option, Some, None, length, append-nil}
-use Rattle.scfs_base.specs.Outside.{Puts, Rose}
+use Rattle.scfs_base.specs.Outside.{Puts}
 use Rattle.scfs_policy.specs.declared.rank.RankFacts.{RankFacts}
 use Rattle.scfs_schedule.specs.declared.types.Header.{Header}
 use Rattle.scfs_schedule.specs.Reading.{read}
@@ -14,12 +14,12 @@ use Rattle.scfs_cli.specs.declared.closing.Status.TheVariants as statuses
 use Rattle.scfs_cli.specs.declared.play.Played.{Played}
 use Rattle.scfs_cli.specs.declared.play.Played.TheVariants as playeds
 use Rattle.scfs_cli.specs.Closing.{closing_of, closing_status, closing_text, last_line_text, status_of}
-use Rattle.scfs_cli.specs.Edges.{GetsFront, GetsPart, Passes}
+use Rattle.scfs_cli.specs.Edges.{GetsPart, Passes}
 use Rattle.scfs_cli.specs.Finishing.{EndsWith}
 use Rattle.scfs_cli.specs.Giving.{Tells}
 use Rattle.scfs_cli.specs.Headline.{Closes, GetsText, IsStatus, ReplaysInput, last_line}
 use Rattle.scfs_cli.specs.Playing.{Playing, played}
-use Rattle.scfs_cli.specs.Plays.{Counts, Plays, Ran, WroteBy, filled_of, finish_of}
+use Rattle.scfs_cli.specs.Plays.{Plays, WroteBy, filled_of, finish_of}
 use Rattle.scfs_cli.proofs.ClosingLemmas.{line_behind, part_behind, status_behind}
 use Rattle.scfs_cli.proofs.EdgeLemmas.{front_of_more, passes_all, passes_on, passes_put, puts_more, puts_nothing, then_part}
 use Rattle.scfs_cli.proofs.PaceLemmas.{pace_out}
@@ -42,10 +42,6 @@ first_events : (allows : RankFacts → ℕ → Type 0) (header : Header) (past :
     → EndsWith allows header past playing finish → EndsWith allows header past playing None
 first_events allows header past playing None ends = ends
 first_events allows header past playing (Some finish) ends = ⊎_elim (λ all. ([], all.0)) (λ large. (large.1.0 ∷ large.1.1, large.1.2)) ends
-
--- reading tells nothing of a run that ended by itself
-pub tells_open : (a b c d : ℕ) (filled : Filled) → Tells a b c d filled → Tells a b c d filleds.Open
-tells_open a b c d filled p = record { later_ends = p.later_ends; later_faults = p.later_faults; ended = λ is. cc; failed = λ is. cc }
 
 module _ (allows : RankFacts → ℕ → Type 0) (left now before b after : Option (List ℕ)) (w : List ℕ) (result : Played) (plays : Plays allows left now before b w result) where
   -- what waited was written

@@ -1,17 +1,16 @@
 -- A run, event by event.
-use Rattle.std.proofs.Common.{◌≡◌, ◌≢◌, ◌≤◌, ◌^◌, ◌<◌, ℕ, ◌+◌, List, [], ◌∷◌, ◌++◌, false, true, refl, ap, ◌∙◌, sym, subst, Option, Some, None, length, arith, append_assoc, append-nil, length-append, inl}
+use Rattle.std.proofs.Common.{◌≡◌, ◌≤◌, ◌^◌, ◌<◌, ℕ, ◌+◌, List, [], ◌∷◌, ◌++◌, false, refl, ap, sym, subst, Option, Some, None, length, arith, length-append, inl}
 use Rattle.std.specs.Prelude.{IfSome}
 use Rattle.scfs_base.specs.Limits.{input_limit}
 use Rattle.scfs_base.specs.Outside.{Takes, Puts}
 use Rattle.scfs_policy.specs.declared.rank.RankFacts.{RankFacts}
 use Rattle.scfs_schedule.specs.declared.types.Event.{Event}
 use Rattle.scfs_schedule.specs.declared.types.Header.{Header}
-use Rattle.scfs_schedule.specs.Reading.{Read, Reading, IsAtEvents, gives, read, stopped, unfinished, unread, with_event, with_header}
+use Rattle.scfs_schedule.specs.Reading.{Read, Reading, gives, read}
 use Rattle.scfs_model.specs.Format.{Setup}
 use Rattle.scfs_model.specs.History.{Entry, History, transcript}
 use Rattle.scfs_model.specs.Runs.{Happens}
 use Rattle.scfs_model.specs.UnitFormat.{under}
-use Rattle.scfs_world.specs.Built.{is_built_header}
 use Rattle.scfs_laws.specs.Held.{ReadsHeld}
 use Rattle.scfs_laws.specs.Laws.{NoClashBefore}
 use Rattle.scfs_laws.specs.Newest.{OpensNewest}
@@ -19,19 +18,17 @@ use Rattle.scfs_cli.specs.declared.closing.Filled.{Filled}
 use Rattle.scfs_cli.specs.declared.closing.Filled.TheVariants as filleds
 use Rattle.scfs_cli.specs.declared.closing.Finish.{Finish}
 use Rattle.scfs_cli.specs.declared.intake.Given.{Given}
-use Rattle.scfs_cli.specs.declared.intake.Given.TheVariants as givens
 use Rattle.scfs_cli.specs.declared.intake.Intake.{Intake}
 use Rattle.scfs_cli.specs.declared.play.Played.{Played}
 use Rattle.scfs_cli.specs.declared.play.Played.TheVariants as playeds
 use Rattle.scfs_cli.specs.Edges.{GetsPart, Passes}
 use Rattle.scfs_cli.specs.Finishing.{EndsWith}
-use Rattle.scfs_cli.specs.Giving.{Draws, IsFresh, Tells, WaitedFor, filled_by}
+use Rattle.scfs_cli.specs.Giving.{Draws, IsFresh, Tells, WaitedFor}
 use Rattle.scfs_cli.specs.Pace.{KeepsPace}
-use Rattle.scfs_cli.specs.Playing.{Playing, finish_at, header_lines, played}
-use Rattle.scfs_cli.specs.Plays.{EndsAtOnce, IsNext, Known, Plays, Ran, SoFar, with_past, entry_text, filled_of, finish_of, Counts, WroteBy}
-use Rattle.scfs_cli.proofs.EdgeLemmas.{passes_nothing, passes_on, passes_part, passes_then, puts_nothing, takes_nothing, takes_then}
-use Rattle.scfs_cli.proofs.PaceLemmas.{Fronts, pace_event, pace_next, pace_nothing, pace_out}
-use Rattle.scfs_cli.proofs.PlayedLemmas.{AllPlayed, Leads, Says, leads_to_end, states_header}
+use Rattle.scfs_cli.specs.Playing.{Playing, played}
+use Rattle.scfs_cli.specs.Plays.{EndsAtOnce, IsNext, Known, Plays, Ran, filled_of, finish_of, Counts, WroteBy}
+use Rattle.scfs_cli.proofs.EdgeLemmas.{passes_nothing, passes_on, takes_nothing, takes_then}
+use Rattle.scfs_cli.proofs.PaceLemmas.{Fronts, pace_next, pace_nothing, pace_out}
 
 -- what reading tells, one part of it after another
 pub tells_then : (a b c d e f : ℕ) (filled : Filled) → Tells a b d e filleds.Open → Tells b c e f filled → Tells a c d f filled

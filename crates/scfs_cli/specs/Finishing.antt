@@ -1,4 +1,4 @@
-use Rattle.std.specs.Prelude.{◌≡◌, ◌⊎◌, ◌<◌, ◌≤◌, ℕ, List, [], ◌∷◌, Option, Some, None}
+use Rattle.std.specs.Prelude.{◌≡◌, ◌⊎◌, ◌<◌, ℕ, List, [], ◌∷◌, Option, Some, None}
 use Rattle.scfs_base.specs.Limits.{carried_limit}
 use Rattle.scfs_policy.specs.declared.rank.RankFacts.{RankFacts}
 use Rattle.scfs_schedule.specs.declared.types.Event.{Event}

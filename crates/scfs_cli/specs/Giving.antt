@@ -1,5 +1,5 @@
 -- What the text on the input gives next, and what is read for it.
-use Rattle.std.specs.Prelude.{◌≡◌, ◌≢◌, ◌≤◌, ◌⊎◌, ℕ, ◌+◌, List, [], ◌++◌, false, length, Option, Some, None, IfSome}
+use Rattle.std.specs.Prelude.{◌≡◌, ◌≢◌, ◌≤◌, ◌⊎◌, ℕ, ◌+◌, List, [], ◌++◌, false, length, Option, None, IfSome}
 use Rattle.scfs_base.specs.Limits.{input_limit}
 use Rattle.scfs_base.specs.Outside.{Takes, Rose}
 use Rattle.scfs_schedule.specs.Grammar.{IsHeader, IsEvent}

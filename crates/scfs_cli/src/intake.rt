@@ -1,4 +1,4 @@
-ghost use Rattle.std.specs.Prelude.{◌≡◌, ◌++◌, [], List, ℕ, IfNone, IfOk, IfSome, OnErr, OnOk, Ok};
+ghost use Rattle.std.specs.Prelude.{◌≡◌, [], List, ℕ, IfNone, IfOk, IfSome, OnErr, OnOk, Ok};
 ghost use Rattle.scfs_base.specs.Outside.{HasCause};
 ghost use Rattle.scfs_schedule.specs.Reading.{IsDrained, gives};
 ghost use Rattle.scfs_cli.specs.Edges.{Fed, GetsPart, Passes};
@@ -115,7 +115,8 @@ impl Intake {
     ) -> Result<Given, Failed>
         ensures draws { IfOk result (λ given. (more : List ℕ) × Draws (I.left input.old) (I.left input.new) more self.old self.new given
             × WaitedFor self.old.reader more waiting.new) }
-        ensures tells { IfOk result (λ given. Tells (I.ends input.old) (I.ends input.new) (I.faults input.old) (I.faults input.new) (filled_by given)) }
+        ensures tells { IfOk result (λ given.
+            Tells (I.ends input.old) (I.ends input.new) (I.faults input.old) (I.faults input.new) (filled_by given)) }
         ensures passes { OnOk result (Passes (O.written out.old) (O.written out.new) waiting.old waiting.new []) }
         ensures part { OnErr result (GetsPart (O.written out.old) (O.written out.new) waiting.old × (input.new ≡ input.old)) }
         ensures cause { HasCause (O.faults out.old) (O.faults out.new) result }

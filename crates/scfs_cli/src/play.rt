@@ -80,12 +80,12 @@ fn take_turn<O: Sink, R: Fn(RankFacts) -> u64>(
             StepFault::TooLarge => Turn::TooLarge,
             StepFault::Memory => Turn::Memory,
         },
-        Ok(stepped) => push_lines(alloc, stepped, waiting, out),
+        Ok(stepped) => pass_lines(alloc, stepped, waiting, out),
     }
 }
 
 /// Lets the lines wait of the event that a world did last.
-fn push_lines<O: Sink>(alloc: Global, stepped: Stepped, waiting: &mut Waiting, out: &mut O) -> Turn
+fn pass_lines<O: Sink>(alloc: Global, stepped: Stepped, waiting: &mut Waiting, out: &mut O) -> Turn
     ensures done { (next : WorldState) → result ≡ Turn.Done next → (next ≡ stepped.world)
         × Passes (O.written out.old) (O.written out.new) waiting.old waiting.new (flat_map (numbered stepped.world.events) stepped.lines) }
     ensures goes_on { finish_of_turn result ≡ None }

@@ -1,4 +1,4 @@
-use Rattle.std.proofs.Common.{◌≡◌, ◌+◌, ◌++◌, [], Bool, List, ℕ, Option, false, if◌then◌else◌, refl, sym, ap, ◌∙◌, subst, arith, append-nil}
+use Rattle.std.proofs.Common.{◌≡◌, ◌+◌, ◌++◌, [], Bool, false, if◌then◌else◌, refl, sym, ap, ◌∙◌, subst, arith, append-nil}
 use Rattle.scfs_base.specs.Outside.{Takes}
 use Rattle.scfs_schedule.specs.Reading.{Reading, gives, read, with_header}
 use Rattle.scfs_schedule.specs.declared.types.Header.{Header}

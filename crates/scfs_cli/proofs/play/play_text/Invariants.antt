@@ -1,4 +1,4 @@
-use Rattle.std.proofs.Common.{◌≡◌, ◌≤◌, ◌-◌}
+use Rattle.std.proofs.Common.{◌≤◌, ◌-◌}
 use Rattle.scfs_base.specs.Limits.{events_limit}
 use Rattle.scfs_schedule.specs.declared.types.Header.{Header}
 use Rattle.scfs_model.specs.History.{History}

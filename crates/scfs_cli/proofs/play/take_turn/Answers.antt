@@ -7,9 +7,9 @@ use Rattle.scfs_cli.proofs.play.take_turn.Goals as goal
 pub returns-in-Ok-clause-turns : goal.returns-in-Ok-clause-turns
 returns-in-Ok-clause-turns g c = λ header past stands played.
     let on = c.in-Ok.ensures.plays header past stands played in
-    let pushed = c.push_lines.ensures in
-    pushed_turn _ header past c.args.event.now c.in-Ok.stepped.world c.in-Ok.stepped.lines (g.O.Sink.written c.args.out.now) (g.O.Sink.written c.push_lines.new.out)
-    c.args.waiting.now c.push_lines.new.waiting c.push_lines.result
+    let pushed = c.pass_lines.ensures in
+    pushed_turn _ header past c.args.event.now c.in-Ok.stepped.world c.in-Ok.stepped.lines (g.O.Sink.written c.args.out.now) (g.O.Sink.written c.pass_lines.new.out)
+    c.args.waiting.now c.pass_lines.new.waiting c.pass_lines.result
     (record { entry = on.0; next = record { same = on.1; plays = on.4; permits = on.5 }; said = on.2; stands = on.3 })
     (record { done = pushed.done; goes_on = pushed.goes_on; small = pushed.small; part = pushed.part; nothing = pushed.nothing })
 
