@@ -13,6 +13,7 @@ pub use messages::{
     Asked, CARRIED_LIMIT, Did, Given, Moved, NAMES_LIMIT, NetFault, REQUEST_WEIGHT,
 };
 pub use net::Net;
+pub use store::Store;
 
 #[cfg(test)]
 mod tests;

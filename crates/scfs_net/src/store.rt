@@ -1,4 +1,4 @@
-ghost use Rattle.std.specs.Prelude.{◌≡◌, [], length, IfOk, OnOk};
+ghost use Rattle.std.specs.Prelude.{◌≡◌, [], length, IfOk, OnErr, OnOk};
 ghost use Rattle.scfs_base.specs.Limits.{names_limit};
 ghost use Rattle.scfs_net.specs.Queues.{first_bytes, answer_of, objects_after};
 ghost use Rattle.scfs_net.specs.Store.{stored, with_object, without_object, names_with, last_of};
@@ -19,9 +19,16 @@ pub struct Store {
 impl Model for Store {
     ghost use Rattle.scfs_net.specs.Store.{Objects};
 
+    ghost use Rattle.std.specs.Ordering.{nat_cmp};
+    ghost use Rattle.std.specs.Cmp.Lexicographic.{slice_cmp};
+    ghost use Rattle.std.specs.Map.{keys_of};
+    ghost use Rattle.std.specs.List.Sorted.{IsStrictlySortedBy};
+
     ghost Value = { Objects };
 
     ghost view = { λ store. store.objects.entries };
+
+    ghost invariant = { λ store. IsStrictlySortedBy (slice_cmp nat_cmp) (keys_of store.objects.entries) };
 }
 
 impl Store {
@@ -36,7 +43,8 @@ impl Store {
 
     /// Stores the bytes under the name, in place of what was there.
     pub fn put(&mut self, name: Bytes, body: Bytes) -> Result<(), Memory>
-        ensures { OnOk result (self.new ≡ with_object self.old name body) }
+        ensures ok { OnOk result (self.new ≡ with_object self.old name body) }
+        ensures err { OnErr result (self.new ≡ self.old) }
     {
         let _ = self.objects.insert(Name::new(name), body)?;
         Ok(())
@@ -51,7 +59,8 @@ impl Store {
 
     /// Does what an acknowledged request asks; any other answer leaves the store.
     pub fn settle(&mut self, request: CloudRequest, answer: &CloudAnswer) -> Result<(), Memory>
-        ensures { OnOk result (self.new ≡ objects_after self.old request answer.now) }
+        ensures ok { OnOk result (self.new ≡ objects_after self.old request answer.now) }
+        ensures err { OnErr result (self.new ≡ self.old) }
     {
         match (answer, request) {
             (CloudAnswer::Ack, CloudRequest::Put { name, body }) => self.put(name, body),

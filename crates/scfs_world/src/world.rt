@@ -21,7 +21,7 @@ use scfs_base::{CloudRequest, Memory, Sequence};
 use scfs_net::Net;
 use scfs_policy::{RankFacts, RankRule};
 use scfs_schedule::{Event, Header, Line};
-use scfs_tuples::Space;
+use scfs_tuples::{Space, Tuple};
 use std::alloc::Global;
 use std::marker::Model;
 
@@ -263,6 +263,13 @@ impl World {
         ensures { result ≡ self.now.events }
     {
         self.events
+    }
+
+    /// The tuples of the space, in list order.
+    pub fn tuples(&self) -> Result<Sequence<Tuple>, Memory>
+        ensures { IfOk result (λ tuples. tuples ≡ self.now.space) }
+    {
+        self.space.tuples()
     }
 
     /// The oldest request that waits at a cloud: `None` exactly where no request waits.
