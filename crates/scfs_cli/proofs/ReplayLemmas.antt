@@ -166,6 +166,7 @@ module _ (allows : RankFacts → ℕ → Type 0) (left now before b : Option (Li
     replays_closed statuses.BadInput c = let s = said before b after (transcript plays.past) last _ closing all statuses.BadInput c in with_line statuses.BadInput _ c.0 s.0 s.1
     replays_closed statuses.ReadFault c = let s = said before b after (transcript plays.past) last _ closing all statuses.ReadFault c in with_line statuses.ReadFault _ c.0 s.0 s.1
     replays_closed statuses.TooLarge c = let s = said before b after (transcript plays.past) last _ closing all statuses.TooLarge c in with_line statuses.TooLarge _ c.0 s.0 s.1
+    replays_closed statuses.Differs c = let s = said before b after (transcript plays.past) last _ closing all statuses.Differs c in with_line statuses.Differs _ c.0 s.0 s.1
     replays_closed statuses.WriteFault c =
         with_line statuses.WriteFault c.front c.puts (part_behind before b after (transcript plays.past) last (closing_of (length plays.past) finish filled) closing all c) tt
     replays_closed statuses.Memory c = replays_short (playeds.Ended count finish filled) plays (λ same. cc) tells after c

@@ -81,7 +81,7 @@ asked_next front header past left now next before b after w w' taken more intake
     }
 
 -- at the header
-pub asked_first : (left now before after : Option (List ℕ)) (w w' more : List ℕ) (intake new : Intake) (given : Given) → IsFresh intake → w ≡ []
+pub asked_first : (left now before after : Option (List ℕ)) (w w' more : List ℕ) (intake new : Intake) (given : Given) → IsFresh false intake → w ≡ []
     → Draws left now more intake new given → WaitedFor intake.reader more w' → Passes before after w w' [] → Asked left now before after w' [] more
 asked_first left now before after w w' more intake new given fresh none draws waited passes =
     asked_next (λ r. r) None [] left left now before before after w w' [] more intake new given

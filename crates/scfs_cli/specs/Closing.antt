@@ -26,6 +26,7 @@ status_number statuses.BadInput = 3
 status_number statuses.ReadFault = 4
 status_number statuses.WriteFault = 5
 status_number statuses.TooLarge = 6
+status_number statuses.Differs = 7
 status_number statuses.Memory = 9
 
 -- what is wrong with a line
@@ -47,19 +48,37 @@ which_text whichs.Line = codes "line"
 which_text whichs.Objects = codes "objects"
 which_text whichs.Out = codes "out"
 
+-- the line that says how it ended
+abbrev pub stop_text : LastLine → List ℕ
+stop_text (lasts.Done events) = codes "stop 0 " ++ decimal events ++ codes "\n"
+stop_text lasts.Usage = codes "stop 2 usage\n"
+stop_text (lasts.BadInput line fault) = codes "stop 3 input " ++ decimal line ++ codes " " ++ fault_text fault ++ codes "\n"
+stop_text (lasts.BadJournal line fault) = codes "stop 3 journal " ++ decimal line ++ codes " " ++ fault_text fault ++ codes "\n"
+stop_text (lasts.ReadFault which) = codes "stop 4 " ++ which_text which ++ codes "\n"
+stop_text (lasts.TooLarge which) = codes "stop 6 " ++ which_text which ++ codes "\n"
+stop_text (lasts.Differs line kept made) = codes "stop 7 journal " ++ decimal line ++ codes "\n"
+
+-- a line that shows another under a word
+abbrev pub shown_text : (word line : List ℕ) → List ℕ
+shown_text word line = word ++ line ++ codes "\n"
+
+-- the lines that differ
+abbrev pub differing_text : LastLine → List ℕ
+differing_text (lasts.Differs line kept made) = shown_text (codes "kept ") kept ++ shown_text (codes "made ") made
+differing_text other = []
+
+-- the last line, and behind it the two that differ
 abbrev pub last_line_text : LastLine → List ℕ
-last_line_text (lasts.Done events) = codes "stop 0 " ++ decimal events ++ codes "\n"
-last_line_text lasts.Usage = codes "stop 2 usage\n"
-last_line_text (lasts.BadInput line fault) = codes "stop 3 input " ++ decimal line ++ codes " " ++ fault_text fault ++ codes "\n"
-last_line_text (lasts.ReadFault which) = codes "stop 4 " ++ which_text which ++ codes "\n"
-last_line_text (lasts.TooLarge which) = codes "stop 6 " ++ which_text which ++ codes "\n"
+last_line_text last = stop_text last ++ differing_text last
 
 abbrev pub status_of : LastLine → Status
 status_of (lasts.Done events) = statuses.Done
 status_of lasts.Usage = statuses.Usage
 status_of (lasts.BadInput line fault) = statuses.BadInput
+status_of (lasts.BadJournal line fault) = statuses.BadInput
 status_of (lasts.ReadFault which) = statuses.ReadFault
 status_of (lasts.TooLarge which) = statuses.TooLarge
+status_of (lasts.Differs line kept made) = statuses.Differs
 
 -- the text ends in this line: that is known only where a read gave the end; a fault, or the limit, comes before; while reading is
 -- open, the line is read on

@@ -1,5 +1,5 @@
 -- What the text on the input gives next, and what is read for it.
-use Rattle.std.specs.Prelude.{◌≡◌, ◌≢◌, ◌≤◌, ◌⊎◌, ℕ, ◌+◌, List, [], ◌++◌, false, length, Option, None, IfSome}
+use Rattle.std.specs.Prelude.{◌≡◌, ◌≢◌, ◌≤◌, ◌⊎◌, ℕ, ◌+◌, List, [], ◌++◌, Bool, false, length, Option, None, IfSome}
 use Rattle.scfs_base.specs.Limits.{input_limit}
 use Rattle.scfs_base.specs.Outside.{Takes, Rose}
 use Rattle.scfs_schedule.specs.Grammar.{IsHeader, IsEvent}
@@ -19,9 +19,9 @@ pub record IsAwaiting (reader : Reading) : Type 0 where
   pub goes_on : reader.ending ≡ None
   pub within : reader.longer ≡ false
 
--- an intake of which nothing was read
-pub record IsFresh (intake : Intake) : Type 0 where
-  pub unread : intake.reader ≡ unread false
+-- an intake of which nothing was read, of a schedule or of a script
+pub record IsFresh (script : Bool) (intake : Intake) : Type 0 where
+  pub unread : intake.reader ≡ unread script
   pub room : intake.room ≡ input_limit + 1
 
 -- how reading ended; it is open where the text gave something
@@ -59,6 +59,10 @@ pub record InPieces (reader : Reading) (more : List ℕ) : Type 0 where
   pub few : length piece ≤ piece_limit
   pub line : ℕ
   pub nothing : gives reader early ≡ stopped (unfinished false line)
+
+-- they are none, or they were read in pieces
+abbrev pub ReadOn : Reading → (more : List ℕ) → Type 0
+ReadOn reader more = (more ≡ []) ⊎ InPieces reader more
 
 -- they are none, or nothing waits and they were read in pieces
 abbrev pub WaitedFor : Reading → (more waiting : List ℕ) → Type 0

@@ -31,6 +31,7 @@ GetsText statuses.Usage before after text = Puts before after text
 GetsText statuses.BadInput before after text = Puts before after text
 GetsText statuses.ReadFault before after text = Puts before after text
 GetsText statuses.TooLarge before after text = Puts before after text
+GetsText statuses.Differs before after text = Puts before after text
 GetsText statuses.WriteFault before after text = GetsPart before after text
 GetsText statuses.Memory before after text = GetsFront before after text
 
@@ -41,6 +42,7 @@ IsStatus statuses.Usage closing = statuses.Usage ≡ closing_status closing
 IsStatus statuses.BadInput closing = statuses.BadInput ≡ closing_status closing
 IsStatus statuses.ReadFault closing = statuses.ReadFault ≡ closing_status closing
 IsStatus statuses.TooLarge closing = statuses.TooLarge ≡ closing_status closing
+IsStatus statuses.Differs closing = statuses.Differs ≡ closing_status closing
 IsStatus statuses.WriteFault closing = Unit {0}
 IsStatus statuses.Memory closing = closing ≡ None
 
@@ -58,6 +60,7 @@ Closes last before after statuses.Usage = Puts before after (last_line_text last
 Closes last before after statuses.BadInput = Puts before after (last_line_text last) × (statuses.BadInput ≡ status_of last)
 Closes last before after statuses.ReadFault = Puts before after (last_line_text last) × (statuses.ReadFault ≡ status_of last)
 Closes last before after statuses.TooLarge = Puts before after (last_line_text last) × (statuses.TooLarge ≡ status_of last)
+Closes last before after statuses.Differs = Puts before after (last_line_text last) × (statuses.Differs ≡ status_of last)
 Closes last before after statuses.WriteFault = GetsPart before after (last_line_text last)
 Closes last before after statuses.Memory = Puts before after []
 

@@ -1,5 +1,5 @@
-ghost use Rattle.std.specs.Prelude.{◌≡◌, Some, IfOk};
-ghost use Rattle.scfs_cli.specs.Closing.{closing_of, stop_closing, fault_text, last_line_text, status_number, status_of, which_text};
+ghost use Rattle.std.specs.Prelude.{◌≡◌, ◌++◌, Some, IfOk, OnOk};
+ghost use Rattle.scfs_cli.specs.Closing.{closing_of, fault_text, last_line_text, shown_text, status_number, status_of, stop_closing, stop_text, which_text};
 
 use scfs_base::{Bytes, Memory};
 use scfs_schedule::{Bad, BadKind, Ending, Stop, Which};
@@ -45,11 +45,12 @@ pub enum Status {
     ReadFault,
     WriteFault,
     TooLarge,
+    Differs,
     Memory,
 }
 
 impl Status {
-    /// The exit status: 0, 2 usage, 3 bad input, 4 read fault, 5 write fault, 6 too large, 9 want of memory.
+    /// The exit status: 0, 2 usage, 3 bad input, 4 read fault, 5 write fault, 6 too large, 7 a kept line differs, 9 want of memory.
     pub fn number(&self) -> u8
         ensures { result ≡ status_number self.now }
     {
@@ -60,19 +61,23 @@ impl Status {
             Status::ReadFault => 4,
             Status::WriteFault => 5,
             Status::TooLarge => 6,
+            Status::Differs => 7,
             Status::Memory => 9,
         }
     }
 }
 
-/// The last line of an output. `Done` has the number of events, `BadInput` the number of the line.
-#[derive(Clone, Copy, Debug, PartialEq, Eq)]
+/// The last line of an output. `Done` has the number of events; `BadInput`, `BadJournal` and `Differs` have the number of a line.
+#[derive(Debug, Drop)]
 pub enum LastLine {
     Done(u64),
     Usage,
     BadInput(u64, LineFault),
+    BadJournal(u64, LineFault),
     ReadFault(Which),
     TooLarge(Which),
+    /// With the line that the old journal kept and the one that was made, each on a line of its own.
+    Differs(u64, Bytes, Bytes),
 }
 
 /// What is wrong with a line by its word.
@@ -115,7 +120,7 @@ impl fmt::Display for WhichWord {
 }
 
 impl fmt::Display for LastLine {
-    ghost output = { λ line. Some (last_line_text line) };
+    ghost output = { λ line. Some (stop_text line) };
 
     fn fmt<W: fmt::Write>(&self, f: &mut fmt::Formatter<W>) -> fmt::Result {
         match self {
@@ -124,8 +129,12 @@ impl fmt::Display for LastLine {
             LastLine::BadInput(line, fault) => {
                 write!(f, "stop 3 input {line} {}\n", FaultWord(*fault))
             }
+            LastLine::BadJournal(line, fault) => {
+                write!(f, "stop 3 journal {line} {}\n", FaultWord(*fault))
+            }
             LastLine::ReadFault(which) => write!(f, "stop 4 {}\n", WhichWord(*which)),
             LastLine::TooLarge(which) => write!(f, "stop 6 {}\n", WhichWord(*which)),
+            LastLine::Differs(line, _, _) => write!(f, "stop 7 journal {line}\n"),
         }
     }
 }
@@ -138,19 +147,34 @@ impl LastLine {
         match self {
             LastLine::Done(_) => Status::Done,
             LastLine::Usage => Status::Usage,
-            LastLine::BadInput(_, _) => Status::BadInput,
+            LastLine::BadInput(_, _) | LastLine::BadJournal(_, _) => Status::BadInput,
             LastLine::ReadFault(_) => Status::ReadFault,
             LastLine::TooLarge(_) => Status::TooLarge,
+            LastLine::Differs(_, _, _) => Status::Differs,
         }
     }
 
-    /// The line as text.
+    /// The line as text, and behind it the two lines that differ.
     pub fn text(&self, alloc: Global) -> Result<Bytes, Memory>
         ensures { IfOk result (λ text. text ≡ last_line_text self.now) }
     {
-        let text = format!(in alloc; "{self}")?;
-        Bytes::from_slice(alloc, text.as_bytes())
+        let stop = format!(in alloc; "{self}")?;
+        let mut text = Bytes::from_slice(alloc, stop.as_bytes())?;
+        if let LastLine::Differs(_, kept, made) = self {
+            push_shown(b"kept ", kept.as_slice(), &mut text)?;
+            push_shown(b"made ", made.as_slice(), &mut text)?;
+        }
+        Ok(text)
     }
+}
+
+/// Puts a line behind a text that shows another under a word.
+fn push_shown(word: &[u8], line: &[u8], text: &mut Bytes) -> Result<(), Memory>
+    ensures { OnOk result (text.new ≡ text.old ++ shown_text word.now line.now) }
+{
+    text.extend(word)?;
+    text.extend(line)?;
+    text.push(b'\n')
 }
 
 /// The last line of a run of so many events, by how what was played of its text and the reading of it ended; none for want

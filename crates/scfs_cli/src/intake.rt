@@ -2,7 +2,7 @@ ghost use Rattle.std.specs.Prelude.{◌≡◌, [], List, ℕ, IfNone, IfOk, IfSo
 ghost use Rattle.scfs_base.specs.Outside.{HasCause};
 ghost use Rattle.scfs_schedule.specs.Reading.{IsDrained, gives};
 ghost use Rattle.scfs_cli.specs.Edges.{Fed, GetsPart, Passes};
-ghost use Rattle.scfs_cli.specs.Giving.{Draws, GivesNext, InPieces, IsAwaiting, IsFresh, Tells, WaitedFor, filled_by};
+ghost use Rattle.scfs_cli.specs.Giving.{Draws, GivesNext, InPieces, IsAwaiting, IsFresh, ReadOn, Tells, WaitedFor, filled_by};
 
 use crate::closing::Filled;
 use crate::edges::{PieceRead, feed_piece};
@@ -58,12 +58,12 @@ fn given_now(reader: &mut Reader) -> Option<Given>
 }
 
 impl Intake {
-    /// An input of which nothing was read.
-    pub fn new(alloc: Global) -> Intake
-        ensures { IsFresh result }
+    /// An input of which nothing was read: a schedule or a script.
+    pub fn new(alloc: Global, script: bool) -> Intake
+        ensures { IsFresh script result }
     {
         Intake {
-            reader: Reader::new(alloc, false),
+            reader: Reader::new(alloc, script),
             room: INPUT_LIMIT + 1,
         }
     }
@@ -104,6 +104,17 @@ impl Intake {
             }
         }
         self.ended(Filled::Full)
+    }
+
+    /// What the text gives next, of which nothing waits to be written.
+    pub fn next_alone<I: Source>(&mut self, input: &mut I) -> Given
+        ensures draws { (more : List ℕ) × Draws (I.left input.old) (I.left input.new) more self.old self.new result × ReadOn self.old.reader more }
+        ensures tells { Tells (I.ends input.old) (I.ends input.new) (I.faults input.old) (I.faults input.new) (filled_by result) }
+    {
+        match given_now(&mut self.reader) {
+            Some(given) => given,
+            None => self.read_on(input),
+        }
     }
 
     /// What the text gives next. Before it is read on, all that waits is written.

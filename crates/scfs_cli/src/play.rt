@@ -142,7 +142,7 @@ fn begin<I: Source, O: Sink>(
     waiting: &mut Waiting,
     out: &mut O,
 ) -> Result<World, Played>
-    requires fresh { IsFresh intake.old }
+    requires fresh { IsFresh false intake.old }
     requires nothing { waiting.old ≡ [] }
     ensures begun { IfOk result (λ world. SoFar (I.left input.old) (I.left input.new) (O.written out.old) (O.written out.new) intake.new
         waiting.new world.header []) }
@@ -191,7 +191,7 @@ fn play_text<I: Source, O: Sink, R: Fn(RankFacts) -> u64>(
     reads_are_held();
     opens_are_newest();
     standing_worlds_are_shown();
-    let mut intake = Intake::new(alloc);
+    let mut intake = Intake::new(alloc, false);
     let mut world = match begin(alloc, &mut intake, input, waiting, out) {
         Ok(world) => world,
         Err(played) => return played,
