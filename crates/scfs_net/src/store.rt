@@ -18,7 +18,6 @@ pub struct Store {
 
 impl Model for Store {
     ghost use Rattle.scfs_net.specs.Store.{Objects};
-
     ghost use Rattle.std.specs.Ordering.{nat_cmp};
     ghost use Rattle.std.specs.Cmp.Lexicographic.{slice_cmp};
     ghost use Rattle.std.specs.Map.{keys_of};
