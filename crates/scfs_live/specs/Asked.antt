@@ -1,5 +1,5 @@
 -- What the real clouds were asked: the exchanges that new events record.
-use Rattle.std.specs.Prelude.{◌≡◌, ◌≤◌, ◌⊎◌, ℕ, List, [], ◌∷◌, ◌++◌, length, map, ◌==◌, if◌then◌else◌, Option, Some, None, slice_get}
+use Rattle.std.specs.Prelude.{◌≡◌, ◌≢◌, ◌≤◌, ◌⊎◌, ℕ, List, [], ◌∷◌, ◌++◌, length, map, ◌==◌, if◌then◌else◌, Option, Some, None, slice_get}
 use Rattle.scfs_base.specs.Outside.{Rose}
 use Rattle.scfs_base.specs.declared.cloud.CloudAnswer.{CloudAnswer}
 use Rattle.scfs_base.specs.declared.cloud.CloudAnswer.TheVariants as answers
@@ -92,18 +92,14 @@ pub record IsAskedMore (s : Setup) (new past : History) (c : ℕ) (before now : 
   pub logged : Logged before.log now.log (exchanges s c new past) more
   pub in_step : InStep s c past before.store → InStep s c (new ++ past) now.store ⊎ OneAhead s c (new ++ past) now.store
 
--- so it is of each cloud, as it was and as it is
-pub record Each (IsSo : ℕ → Told → Told → Type 0) (before now : List Told) : Type 0 where
+-- the clouds over new events, each as it was and as it is
+pub record AreAsked (s : Setup) (new past : History) (before now : List Told) : Type 0 where
   pub same : length now ≡ length before
-  pub each : (c : ℕ) (old new : Told) → slice_get before c ≡ Some old → slice_get now c ≡ Some new → IsSo c old new
+  pub each : (c : ℕ) (was is : Told) → slice_get before c ≡ Some was → slice_get now c ≡ Some is → IsAsked s new past c was is
 
--- one cloud may have been asked once more
-abbrev pub MoreAt : Setup → (new past : History) → (d : ℕ) → (c : ℕ) → Told → Told → Type 0
-MoreAt s new past d c before now = if d == c then IsAskedMore s new past c before now else IsAsked s new past c before now
-
--- each cloud over new events; and where one of them may have been asked once more
-abbrev pub AreAsked : Setup → (new past : History) → (before now : List Told) → Type 0
-AreAsked s new past before now = Each (IsAsked s new past) before now
-
-abbrev pub AreAskedMore : Setup → (new past : History) → (before now : List Told) → Type 0
-AreAskedMore s new past before now = (d : ℕ) × Each (MoreAt s new past d) before now
+-- and one of them may have been asked once more
+pub record AreAskedMore (s : Setup) (new past : History) (before now : List Told) : Type 0 where
+  pub one : ℕ
+  pub same : length now ≡ length before
+  pub each : (c : ℕ) (was is : Told) → c ≢ one → slice_get before c ≡ Some was → slice_get now c ≡ Some is → IsAsked s new past c was is
+  pub more : (was is : Told) → slice_get before one ≡ Some was → slice_get now one ≡ Some is → IsAskedMore s new past one was is

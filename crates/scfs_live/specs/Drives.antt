@@ -1,5 +1,5 @@
 -- The contract of a drive.
-use Rattle.std.specs.Prelude.{◌≡◌, ℕ, List, ◌++◌, length, Option, Some, None}
+use Rattle.std.specs.Prelude.{◌≡◌, ◌<◌, ◌+◌, ◌*◌, ℕ, List, ◌++◌, length, All, Option, Some, None, IfSome}
 use Rattle.scfs_base.specs.Limits.{events_limit}
 use Rattle.scfs_policy.specs.declared.rank.RankFacts.{RankFacts}
 use Rattle.scfs_schedule.specs.declared.types.Event.{Event}
@@ -12,6 +12,7 @@ use Rattle.scfs_world.specs.State.{WorldState}
 use Rattle.scfs_live.specs.Asked.{AreAsked, AreAskedMore, Told}
 use Rattle.scfs_live.specs.Driven.{ComesNext, IsDrivenFrom, IsSettled}
 use Rattle.scfs_live.specs.Driving.{Driver, begins_with}
+use Rattle.scfs_live.specs.Given.{IsWork}
 use Rattle.scfs_live.specs.Recording.{IsTooLargeNext, ShowedPart, WroteAll, WrotePart}
 use Rattle.scfs_live.specs.declared.ending.LiveEnd.{LiveEnd}
 use Rattle.scfs_live.specs.declared.ending.LiveEnd.TheVariants as ends
@@ -23,22 +24,27 @@ pub record StandsForSome (allows : RankFacts → ℕ → Type 0) (world : WorldS
   pub stands : Stands world header past
   pub plays : IsPlayed allows header past
 
--- New events behind a history under a header that driving made, from where it was to where it is: they were played.
+-- New events behind a history that driving made, from where it was to where it is; they were played.
 pub record Drove (allows : RankFacts → ℕ → Type 0) (header : Header) (before : Driver) (new past : History) (after : Driver) : Type 0 where
   pub plays : IsPlayed allows header (new ++ past)
   pub driven : IsDrivenFrom (under header) before new past after
 
--- A drive that came to its end: what was given was done, all is settled, and no turn is to come. The world stands for the history with
--- the new events; journal and out got all of them; and what was asked of the clouds is what they record.
-pub record Drives (allows : RankFacts → ℕ → Type 0) (header : Header) (given : Option Event) (past : History) (world : WorldState)
+-- A drive so far, with an event that was given or none: the world stands for the history with the new events, journal and out got all of
+-- them, and what was asked of the clouds is what they record.
+pub record Going (allows : RankFacts → ℕ → Type 0) (header : Header) (given : Option Event) (past : History) (world : WorldState) (driver : Driver)
     (j j' o o' : Option (List ℕ)) (clouds clouds' : List Told) : Type 0 where
   pub new : History
-  pub after : Driver
-  pub drove : Drove allows header (begins_with (under header) given) new past after
-  pub settled : IsSettled (under header) after (new ++ past)
+  pub drove : Drove allows header (begins_with (under header) given) new past driver
   pub stands : Stands world header (new ++ past)
   pub wrote : WroteAll j j' o o' new past
   pub asked : AreAsked (under header) new past clouds clouds'
+
+-- A drive that came to its end: what was given is done, all is settled, and no turn is to come.
+pub record Drives (allows : RankFacts → ℕ → Type 0) (header : Header) (given : Option Event) (past : History) (world : WorldState)
+    (j j' o o' : Option (List ℕ)) (clouds clouds' : List Told) : Type 0 where
+  pub driver : Driver
+  pub going : Going allows header given past world driver j j' o o' clouds clouds'
+  pub settled : IsSettled (under header) driver (going.new ++ past)
 
 -- how an end leaves journal and out: what they got of the new events
 abbrev pub EndWrites : LiveEnd → (j j' o o' : Option (List ℕ)) → (new past : History) → Type 0
@@ -78,3 +84,9 @@ pub record Ends (allows : RankFacts → ℕ → Type 0) (end : LiveEnd) (header 
   pub due : EndIsDue allows end header after (new ++ past)
   pub wrote : EndWrites end j j' o o' new past
   pub asked : EndAsks end header new past clouds clouds'
+
+-- a driver under a header, once what was given is done: it is to work at agents and clouds that there are
+pub record Fits (header : Header) (driver : Driver) : Type 0 where
+  pub given : driver.given ≡ None
+  pub work : All (IsWork (length header.agents) (3 * header.f + 1)) driver.work
+  pub called : IfSome driver.called (λ a. a < length header.agents)

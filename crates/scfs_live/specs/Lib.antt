@@ -6,4 +6,6 @@ pub mod Driven
 pub mod Given
 pub mod Recording
 pub mod Asked
+pub mod Hearing
+pub mod Turning
 pub mod Drives

@@ -4,7 +4,12 @@
 mod drive;
 mod driver;
 mod ending;
+mod hearing;
 mod record;
+#[cfg(test)]
+mod stub;
+#[cfg(test)]
+mod tests;
 mod waits;
 mod writing;
 

@@ -2,7 +2,7 @@ use crate::drive::drive;
 use crate::ending::LiveEnd;
 use crate::writing::write_all;
 use scfs_base::{Bytes, MemSink, Sequence};
-use scfs_cloud::MemCloud;
+use crate::stub::MemCloud;
 use scfs_policy::{RankFacts, RankRule};
 use scfs_schedule::{Header, Mode, Which, push_header, read_event};
 use scfs_world::World;
@@ -51,6 +51,7 @@ fn clouds(alloc: Global, failing: &[usize]) -> Result<Vec<MemCloud>, Fail> {
 }
 
 /// What a run of a script wrote to journal and out, and how it ended.
+#[derive(Drop)]
 struct Ran {
     journal: MemSink,
     out: MemSink,
@@ -62,7 +63,7 @@ fn run(alloc: Global, failing: &[usize], failing_write: Option<u64>) -> Result<R
     let mut journal = MemSink::new(alloc, one(alloc, failing_write)?);
     let mut out = MemSink::new(alloc, Vec::new(alloc));
     let mut clouds = clouds(alloc, failing)?;
-    let rank = RankRule::new(|facts: RankFacts| facts.bad);
+    let rank = RankRule::new(|facts: RankFacts| u64::from(facts.bad));
     let mut text = Bytes::new(alloc);
     push_header(alloc, &header(alloc)?, &mut text)?;
     let _ = write_all(&mut journal, text.as_slice());
@@ -86,4 +87,52 @@ fn run(alloc: Global, failing: &[usize], failing_write: Option<u64>) -> Result<R
         }
     }
     Ok(Ran { journal, out, end })
+}
+
+/// The lines of a journal behind its header that are events.
+fn event_lines(alloc: Global, journal: &[u8]) -> Result<Bytes, Fail> {
+    let mut lines = Bytes::new(alloc);
+    let mut kept = true;
+    let mut begins = true;
+    for byte in journal {
+        if begins {
+            kept = *byte != b' ';
+        }
+        if kept {
+            lines.push(*byte)?;
+        }
+        begins = *byte == b'\n';
+    }
+    Ok(lines)
+}
+
+/// The header's lines and then these.
+fn behind_header(alloc: Global, text: &str) -> Result<Bytes, Fail> {
+    let mut whole = Bytes::new(alloc);
+    push_header(alloc, &header(alloc)?, &mut whole)?;
+    whole.extend(text.as_bytes())?;
+    Ok(whole)
+}
+
+#[test]
+fn one_cloud_fails_its_first_call(rt: HostRuntime) -> Result<(), Fail> {
+    let ran = run(rt.alloc(), &[2], None)?;
+    assert!(rt; ran.end.is_none());
+    let lines = event_lines(rt.alloc(), ran.journal.written())?;
+    let wanted = behind_header(rt.alloc(), EVENTS)?;
+    assert_eq!(rt; lines.as_slice(), wanted.as_slice());
+    assert!(rt; ran.out.written().starts_with(b"2 changed 0.0.1\n3 ok 0 create 1\n"));
+    assert!(rt; ran.out.written().ends_with(b"\n18 closed 0 1 1\n"));
+    Ok(())
+}
+
+#[test]
+fn the_journal_fails_at_its_fifth_write(rt: HostRuntime) -> Result<(), Fail> {
+    let ran = run(rt.alloc(), &[2], Some(5))?;
+    assert!(rt; matches!(ran.end, Some(LiveEnd::WriteFault(Which::Journal))));
+    let text = "call 0 create /a\nspace 0\n 2 changed 0.0.1\ntold 0\n 3 ok 0 create 1\n";
+    let wanted = behind_header(rt.alloc(), text)?;
+    assert_eq!(rt; ran.journal.written(), wanted.as_slice());
+    assert_eq!(rt; ran.out.written(), b"2 changed 0.0.1\n3 ok 0 create 1\n".as_slice());
+    Ok(())
 }
