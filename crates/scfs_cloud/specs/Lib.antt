@@ -1,0 +1,3 @@
+pub mod Cutting
+pub mod Asking
+pub mod Kinds

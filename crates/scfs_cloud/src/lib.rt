@@ -1,0 +1,10 @@
+//! Storage clouds that nobody trusts: what a cloud promises, asking one, and what is kept of its answer.
+#![tactic(auto)]
+
+mod asking;
+mod cloud;
+mod cutting;
+
+pub use asking::ask_cloud;
+pub use cloud::{Cloud, CloudFault, Exchange};
+pub use cutting::NAME_LIMIT;

@@ -1,0 +1,11 @@
+pub mod Edges
+pub mod Journal
+pub mod Waits
+pub mod Driving
+pub mod Driven
+pub mod Given
+pub mod Recording
+pub mod Asked
+pub mod Hearing
+pub mod Turning
+pub mod Drives
