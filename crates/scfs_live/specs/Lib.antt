@@ -1,2 +1,10 @@
 pub mod Edges
+pub mod Finding
 pub mod Journal
+pub mod Keeping
+pub mod Limits
+pub mod Reopened
+pub mod Reopening
+pub mod Rereading
+pub mod Taking
+pub mod TooLarge

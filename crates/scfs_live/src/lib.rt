@@ -1,8 +1,17 @@
 //! Running a script over real clouds: what comes next, and what is written to the journal before it is shown.
 #![tactic(auto)]
 
+mod awaited;
 mod ending;
+mod finding;
+mod limits;
+#[cfg(test)]
+mod old_journals;
+mod pieces;
+mod reopening;
+mod running;
 mod writing;
 
 pub use ending::LiveEnd;
+pub use reopening::reopen;
 pub use writing::write_all;
