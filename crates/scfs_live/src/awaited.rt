@@ -1,5 +1,6 @@
 ghost use Rattle.std.specs.Prelude.{◌≡◌, ◌++◌, [], map, slice_get, IfOk};
 ghost use Rattle.std.specs.List.{flat_map};
+ghost use Rattle.std.specs.Option.{option_copied};
 ghost use Rattle.scfs_schedule.specs.Grammar.{IsHeader};
 ghost use Rattle.scfs_live.specs.Finding.{IsUnder, body_found, found};
 ghost use Rattle.scfs_live.specs.Keeping.{awaited_text, ended, ended_kept, made_line, unkept, without_header_line, without_line, whole_lines};
@@ -62,6 +63,13 @@ fn push_kept(lines: &[Bytes], text: &mut Bytes) -> Result<(), Memory>
     Ok(())
 }
 
+/// The first line.
+fn front(lines: &Sequence<Bytes>) -> Option<&[u8]>
+    ensures { option_copied result ≡ slice_get lines.now 0 }
+{
+    lines.get(0).map(|line| line.as_slice())
+}
+
 impl Awaited {
     /// The lines of a header, of which none is kept yet.
     pub fn of_header(alloc: Global, header: &Header) -> Result<Awaited, Memory>
@@ -98,8 +106,8 @@ impl Awaited {
         if is_left_out(line) {
             return Ok(Found::LeftOut);
         }
-        match self.header.get(0) {
-            Some(first) => compared(alloc, Found::KeepsHeader, line, first.as_slice()),
+        match front(&self.header) {
+            Some(first) => compared(alloc, Found::KeepsHeader, line, first),
             None => self.body_found(alloc, header, line),
         }
     }
@@ -110,10 +118,16 @@ impl Awaited {
         ensures value { IfOk result (λ is. is ≡ body_found header.now (slice_get self.now.lines 0) line.now) }
         ensures under { IfOk result (λ is. IsUnder header.now is) }
     {
-        let made = self.lines.get(0).map(|made| made.as_slice());
+        let made = front(&self.lines);
         match line {
-            [b' ', kept @ ..] => kept_found(alloc, made, kept),
-            _ => event_found(alloc, header, made, line),
+            [] => event_found(alloc, header, made, line),
+            [first, kept @ ..] => {
+                if *first == b' ' {
+                    kept_found(alloc, made, kept)
+                } else {
+                    event_found(alloc, header, made, line)
+                }
+            }
         }
     }
 

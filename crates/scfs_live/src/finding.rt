@@ -53,7 +53,7 @@ pub fn compared(alloc: Global, same: Found, kept: &[u8], made: &[u8]) -> Result<
 
 /// A line that began with a space, where `made` is the next one to be kept.
 pub fn kept_found(alloc: Global, made: Option<&[u8]>, kept: &[u8]) -> Result<Found, Memory>
-    ensures value { IfOk result (λ found. found ≡ kept_found (option_copied made) kept.now) }
+    ensures value { IfOk result (λ found. found ≡ kept_found (option_copied made.entry) kept.now) }
     ensures under { IfOk result (λ found. (header : Header) → IsUnder header found) }
 {
     match made {
@@ -74,7 +74,7 @@ pub fn event_found(
     line: &[u8],
 ) -> Result<Found, Memory>
     requires { IsHeader header.now }
-    ensures value { IfOk result (λ found. found ≡ event_found (option_copied made) (event_read header.now line.now)) }
+    ensures value { IfOk result (λ found. found ≡ event_found (option_copied made.entry) (event_read header.now line.now)) }
     ensures under { IfOk result (λ found. IsUnder header.now found) }
 {
     match (read_event(alloc, header, line)?, made) {
