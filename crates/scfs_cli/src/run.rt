@@ -1,0 +1,72 @@
+//! A run of a script over real clouds.
+
+ghost use Rattle.std.specs.Prelude.{◌≡◌, ◌≤◌, ◌+◌, [], List, IfErr, IfOk, length, map, true};
+ghost use Rattle.scfs_policy.specs.Rank.{IsRankRule};
+ghost use Rattle.scfs_schedule.specs.Grammar.{IsHeader};
+ghost use Rattle.scfs_schedule.specs.Reading.{IsAtEvents};
+ghost use Rattle.scfs_schedule.specs.declared.types.Event.{Event};
+ghost use Rattle.scfs_schedule.specs.declared.types.Header.{Header};
+ghost use Rattle.scfs_live.specs.Asked.{told};
+ghost use Rattle.scfs_world.specs.Built.{is_built_header};
+ghost use Rattle.scfs_cli.specs.Giving.{IsFresh};
+ghost use Rattle.scfs_cli.specs.Outer.{SourceView, sink, source};
+ghost use Rattle.scfs_cli.specs.Running.{Runs};
+ghost use Rattle.scfs_cli.specs.Underway.{GivesEvent, IsBegun, ReadsHeader, ScriptSoFar};
+
+use crate::closing::{Filled, Finish};
+use crate::intake::{Given, Intake};
+use crate::stopping::RunEnd;
+use scfs_base::{Sink, Source};
+use scfs_cloud::Cloud;
+use scfs_laws::{opens_are_newest, reads_are_held, runs_without_clash};
+use scfs_live::{LiveEnd, drive, reopen};
+use scfs_policy::{RankFacts, RankRule};
+use scfs_schedule::{Event, Header};
+use scfs_world::{is_built, is_built_header};
+use std::alloc::Global;
+
+/// Reads the script's header.
+fn read_header<I: Source>(intake: &mut Intake, input: &mut I) -> Result<Header, RunEnd>
+    requires fresh { IsFresh true intake.old }
+    ensures reads { ReadsHeader (source (I.left input.old) (I.ends input.old) (I.faults input.old))
+        (source (I.left input.new) (I.ends input.new) (I.faults input.new)) intake.new result }
+    ensures header { IfOk result (λ header. IsHeader header × (is_built_header header ≡ true)) }
+{
+    match intake.next_alone(input) {
+        Given::Memory => Err(RunEnd::Stopped(LiveEnd::Memory)),
+        Given::Ended(ending, filled) => Err(RunEnd::Finished(0, Finish::Text(ending), filled)),
+        Given::Event(_) => unreachable!(),
+        Given::Header(header) => {
+            if !is_built_header(&header) {
+                let finish = Finish::Unbuilt(intake.line());
+                return Err(RunEnd::Finished(0, finish, Filled::Open));
+            }
+            Ok(header)
+        }
+    }
+}
+
+/// The script's next event; with `count` events in the run so far.
+fn next_event<I: Source>(
+    intake: &mut Intake,
+    input: &mut I,
+    count: u64,
+) -> Result<Event, RunEnd>
+    requires begun { (header : Header) × IsAtEvents intake.old.reader header }
+    ensures gives { (first : SourceView) (header : Header) (done : List Event) →
+        ScriptSoFar first (source (I.left input.old) (I.ends input.old) (I.faults input.old)) intake.old header done →
+        GivesEvent first (source (I.left input.new) (I.ends input.new) (I.faults input.new)) intake.old intake.new header done count result }
+{
+    match intake.next_alone(input) {
+        Given::Memory => Err(RunEnd::Stopped(LiveEnd::Memory)),
+        Given::Ended(ending, filled) => Err(RunEnd::Finished(count, Finish::Text(ending), filled)),
+        Given::Header(_) => unreachable!(),
+        Given::Event(event) => {
+            if !is_built(&event) {
+                let finish = Finish::Unbuilt(intake.line());
+                return Err(RunEnd::Finished(count, finish, Filled::Open));
+            }
+            Ok(event)
+        }
+    }
+}
