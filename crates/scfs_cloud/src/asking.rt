@@ -1,4 +1,6 @@
+ghost use Rattle.std.specs.Prelude.{IfOk, IsTrue};
 ghost use Rattle.scfs_base.specs.declared.cloud.CloudAnswer.TheVariants as CloudAnswer;
+ghost use Rattle.scfs_cloud.specs.Cutting.{suits};
 ghost use Rattle.scfs_cloud.specs.Asking.{Asks, IsCounted, IsLogged, IsStored, said, same};
 
 use crate::cutting::cut_answer;
@@ -11,6 +13,7 @@ fn call<C: Cloud>(cloud: &mut C, request: &CloudRequest) -> Result<CloudAnswer, 
     ensures counted { IsCounted (C.faults cloud.old) (C.faults cloud.new) (said same result) }
     ensures logged { IsLogged (C.log cloud.old) (C.log cloud.new) request.now (said same result) }
     ensures stored { IsStored (C.store cloud.old) (C.store cloud.new) request.now (said same result) }
+    ensures suited { IfOk result (λ answer. IsTrue (suits request.now answer)) }
 {
     match request {
         CloudRequest::Put { name, body } => match cloud.put(name.as_slice(), body.as_slice()) {

@@ -1,10 +1,15 @@
 //! Storage clouds that nobody trusts: what a cloud promises, asking one, and what is kept of its answer.
 #![tactic(auto)]
 
+mod answers;
 mod asking;
 mod cloud;
 mod cutting;
+mod memory;
+mod said;
 
 pub use asking::ask_cloud;
 pub use cloud::{Cloud, CloudFault, Exchange};
 pub use cutting::NAME_LIMIT;
+pub use memory::MemCloud;
+pub use said::SaidCloud;

@@ -1,0 +1,92 @@
+ghost use Rattle.std.specs.Prelude.{◌≡◌, [], Some, IfOk, IsTrue};
+ghost use Rattle.scfs_base.specs.declared.cloud.CloudRequest.TheVariants as CloudRequest;
+ghost use Rattle.scfs_base.specs.declared.cloud.CloudAnswer.TheVariants as CloudAnswer;
+ghost use Rattle.scfs_cloud.specs.Asking.{IsCounted, IsLogged, IsStored, said, acked, found, same};
+ghost use Rattle.scfs_cloud.specs.Cutting.{suits};
+ghost use Rattle.scfs_cloud.specs.InMemory.{TellsTruth};
+
+use crate::answers::{bytes_of, names_of};
+use crate::{Cloud, CloudFault, Exchange};
+use scfs_base::{Bytes, CloudAnswer, CloudRequest, NameList, Sequence};
+use scfs_net::Store;
+use std::alloc::Global;
+use std::marker::Model;
+
+/// A truthful cloud in memory, seen as what it holds, its log, the numbers (from 1) of the calls that fail, and its counts.
+#[derive(Drop)]
+pub struct MemCloud {
+    alloc: Global,
+    store: Store,
+    log: Sequence<Exchange>,
+    fails: Vec<u64>,
+    calls: u64,
+    faults: u64,
+}
+
+impl Model for MemCloud {
+    ghost use Rattle.std.specs.Ordering.{nat_cmp};
+    ghost use Rattle.std.specs.Cmp.Lexicographic.{slice_cmp};
+    ghost use Rattle.std.specs.Map.{keys_of};
+    ghost use Rattle.std.specs.List.Sorted.{IsStrictlySortedBy};
+    ghost use Rattle.scfs_cloud.specs.InMemory.{Truthful};
+
+    ghost Value = { Truthful };
+
+    ghost view = { λ cloud. record {
+      objects = cloud.store;
+      log = cloud.log;
+      fails = cloud.fails.items;
+      calls = cloud.calls;
+      faults = cloud.faults;
+    } };
+
+    ghost invariant = { λ cloud. IsStrictlySortedBy (slice_cmp nat_cmp) (keys_of cloud.store) };
+}
+
+impl MemCloud {
+    /// A cloud that holds nothing, whose calls with the numbers `fails` (from 1) fail.
+    pub fn new(alloc: Global, fails: Vec<u64>) -> MemCloud
+        ensures { result ≡ record { objects = []; log = []; fails = fails.items; calls = 0; faults = 0 } }
+    {
+        MemCloud {
+            alloc,
+            store: Store::new(alloc),
+            log: Sequence::new(alloc),
+            fails,
+            calls: 0,
+            faults: 0,
+        }
+    }
+
+    /// The requests and answers so far, the oldest first.
+    pub fn log(&self) -> &[Exchange]
+        ensures { result.now ≡ self.now.log }
+    {
+        self.log.as_slice()
+    }
+
+    /// Serves the request, or fails.
+    fn ask(&mut self, request: CloudRequest) -> Result<CloudAnswer, CloudFault>
+        ensures truth { TellsTruth self.old self.new request (said same result) }
+        ensures counted { IsCounted self.old.faults self.new.faults (said same result) }
+        ensures logged { IsLogged (Some self.old.log) (Some self.new.log) request (said same result) }
+        ensures stored { IsStored (Some self.old.objects) (Some self.new.objects) request (said same result) }
+        ensures suited { IfOk result (λ answer. IsTrue (suits request answer)) }
+    {
+        self.calls = self.calls.saturating_add(1);
+        if self.fails.contains(&self.calls) {
+            let answer = CloudAnswer::Fail;
+            self.log.push(Exchange { request, answer })?;
+            self.faults = self.faults.saturating_add(1);
+            return Err(CloudFault::Failed);
+        }
+        let answer = self.store.answer(self.alloc, &request)?;
+        let logged = Exchange {
+            request: request.copy(self.alloc)?,
+            answer: answer.copy(self.alloc)?,
+        };
+        self.store.settle(request, &answer)?;
+        self.log.push(logged)?;
+        Ok(answer)
+    }
+}
