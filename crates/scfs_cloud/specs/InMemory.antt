@@ -1,6 +1,10 @@
 -- Clouds in memory: one that is truthful, and one whose answers are said beforehand.
 use Rattle.std.specs.Prelude.{◌≡◌, ◌==◌, ℕ, List, [], ◌∷◌, drop, Bool, Option, Some, None, if◌then◌else◌}
 use Rattle.std.specs.List.{list_any}
+use Rattle.std.specs.List.Sorted.{IsStrictlySortedBy}
+use Rattle.std.specs.Map.{keys_of}
+use Rattle.std.specs.Ordering.{nat_cmp}
+use Rattle.std.specs.Cmp.Lexicographic.{slice_cmp}
 use Rattle.scfs_base.specs.InMemory.{one_more}
 use Rattle.scfs_base.specs.declared.cloud.CloudRequest.{CloudRequest}
 use Rattle.scfs_base.specs.declared.cloud.CloudAnswer.{CloudAnswer}
@@ -71,3 +75,7 @@ TellsTruth old new request (Some answer) = (answer ≡ truthful_answer old reque
 abbrev pub SaysNext : Said → Said → CloudRequest → Option CloudAnswer → Type 0
 SaysNext old new request None = Unit {0}
 SaysNext old new request (Some answer) = (answer ≡ said_answer old.answers request) × (new ≡ after_said old request answer)
+
+-- the names stand in byte order, each once
+abbrev pub AreOrdered : Objects → Type 0
+AreOrdered objects = IsStrictlySortedBy (slice_cmp nat_cmp) (keys_of objects)

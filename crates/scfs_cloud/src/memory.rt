@@ -1,13 +1,14 @@
-ghost use Rattle.std.specs.Prelude.{◌≡◌, [], Some, IfOk, IsTrue};
+ghost use Rattle.std.specs.Prelude.{◌≡◌, [], Some, IfOk, IsTrue, OnErr, OnOk};
 ghost use Rattle.scfs_base.specs.declared.cloud.CloudRequest.TheVariants as CloudRequest;
 ghost use Rattle.scfs_base.specs.declared.cloud.CloudAnswer.TheVariants as CloudAnswer;
+ghost use Rattle.scfs_net.specs.Queues.{answer_of, objects_with};
 ghost use Rattle.scfs_cloud.specs.Asking.{IsCounted, IsLogged, IsStored, said, acked, found, same};
-ghost use Rattle.scfs_cloud.specs.Cutting.{suits};
-ghost use Rattle.scfs_cloud.specs.InMemory.{TellsTruth};
+ghost use Rattle.scfs_cloud.specs.Cutting.{cut_answer, suits, HasShortNames};
+ghost use Rattle.scfs_cloud.specs.InMemory.{AreOrdered, TellsTruth};
 
 use crate::answers::{bytes_of, names_of};
 use crate::{Cloud, CloudFault, Exchange};
-use scfs_base::{Bytes, CloudAnswer, CloudRequest, NameList, Sequence};
+use scfs_base::{Bytes, CloudAnswer, CloudRequest, Memory, NameList, Sequence};
 use scfs_net::Store;
 use std::alloc::Global;
 use std::marker::Model;
@@ -24,11 +25,7 @@ pub struct MemCloud {
 }
 
 impl Model for MemCloud {
-    ghost use Rattle.std.specs.Ordering.{nat_cmp};
-    ghost use Rattle.std.specs.Cmp.Lexicographic.{slice_cmp};
-    ghost use Rattle.std.specs.Map.{keys_of};
-    ghost use Rattle.std.specs.List.Sorted.{IsStrictlySortedBy};
-    ghost use Rattle.scfs_cloud.specs.InMemory.{Truthful};
+    ghost use Rattle.scfs_cloud.specs.InMemory.{Truthful, AreOrdered};
 
     ghost Value = { Truthful };
 
@@ -40,7 +37,22 @@ impl Model for MemCloud {
       faults = cloud.faults;
     } };
 
-    ghost invariant = { λ cloud. IsStrictlySortedBy (slice_cmp nat_cmp) (keys_of cloud.store) };
+    ghost invariant = { λ cloud. AreOrdered cloud.store };
+}
+
+/// Serves a request.
+fn serve(alloc: Global, store: &mut Store, request: &CloudRequest) -> Result<CloudAnswer, Memory>
+    requires { AreOrdered store.old }
+    ensures ordered { AreOrdered store.new }
+    ensures answer { IfOk result (λ answer. answer ≡ answer_of store.old request.now) }
+    ensures served { OnOk result (store.new ≡ objects_with store.old request.now) }
+    ensures whole { IfOk result (λ answer. HasShortNames store.old → cut_answer request.now answer ≡ answer) }
+    ensures suited { IfOk result (λ answer. IsTrue (suits request.now answer)) }
+    ensures err { OnErr result (store.new ≡ store.old) }
+{
+    let answer = store.answer(alloc, request)?;
+    store.settle(request.copy(alloc)?, &answer)?;
+    Ok(answer)
 }
 
 impl MemCloud {
@@ -80,12 +92,11 @@ impl MemCloud {
             self.faults = self.faults.saturating_add(1);
             return Err(CloudFault::Failed);
         }
-        let answer = self.store.answer(self.alloc, &request)?;
+        let answer = serve(self.alloc, &mut self.store, &request)?;
         let logged = Exchange {
-            request: request.copy(self.alloc)?,
+            request,
             answer: answer.copy(self.alloc)?,
         };
-        self.store.settle(request, &answer)?;
         self.log.push(logged)?;
         Ok(answer)
     }
