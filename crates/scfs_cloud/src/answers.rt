@@ -1,5 +1,5 @@
 ghost use Rattle.std.specs.Prelude.{◌≡◌, [], IsTrue};
-ghost use Rattle.scfs_cloud.specs.Asking.{found};
+ghost use Rattle.scfs_cloud.specs.Asking.{acked, found};
 ghost use Rattle.scfs_cloud.specs.Cutting.{suits};
 ghost use Rattle.scfs_base.specs.declared.cloud.CloudRequest.TheVariants as CloudRequest;
 ghost use Rattle.scfs_base.specs.declared.cloud.CloudAnswer.TheVariants as CloudAnswer;
@@ -21,6 +21,13 @@ pub fn suits(request: &CloudRequest, answer: &CloudAnswer) -> bool
             CloudAnswer::Absent | CloudAnswer::Bytes(_)
         ) | (CloudRequest::List { prefix: _ }, CloudAnswer::Names(_))
     )
+}
+
+/// Lets go of the answer to a Put or a Delete.
+pub fn done(answer: CloudAnswer)
+    ensures { IsTrue (suits (CloudRequest.Delete []) answer) → acked result ≡ answer }
+{
+    let _ = answer;
 }
 
 /// The bytes of an answer to a Get.

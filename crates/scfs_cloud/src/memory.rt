@@ -6,7 +6,7 @@ ghost use Rattle.scfs_cloud.specs.Asking.{IsCounted, IsLogged, IsStored, said, a
 ghost use Rattle.scfs_cloud.specs.Cutting.{cut_answer, suits, HasShortNames};
 ghost use Rattle.scfs_cloud.specs.InMemory.{AreOrdered, TellsTruth};
 
-use crate::answers::{bytes_of, names_of};
+use crate::answers::{bytes_of, done, names_of};
 use crate::{Cloud, CloudFault, Exchange};
 use scfs_base::{Bytes, CloudAnswer, CloudRequest, Memory, NameList, Sequence};
 use scfs_net::Store;
@@ -99,5 +99,75 @@ impl MemCloud {
         };
         self.log.push(logged)?;
         Ok(answer)
+    }
+}
+
+impl Cloud for MemCloud {
+    ghost faults = { λ cloud. cloud.faults };
+
+    ghost log = { λ cloud. Some cloud.log };
+
+    ghost store = { λ cloud. Some cloud.objects };
+
+    fn put(&mut self, name: &[u8], body: &[u8]) -> Result<(), CloudFault>
+        ensures truth { TellsTruth self.old self.new (CloudRequest.Put name.now body.now) (said acked result) }
+        ensures counted { IsCounted self.old.faults self.new.faults (said acked result) }
+        ensures logged { IsLogged (Some self.old.log) (Some self.new.log) (CloudRequest.Put name.now body.now) (said acked result) }
+        ensures stored { IsStored (Some self.old.objects) (Some self.new.objects) (CloudRequest.Put name.now body.now) (said acked result) }
+    {
+        let request = CloudRequest::Put {
+            name: Bytes::from_slice(self.alloc, name)?,
+            body: Bytes::from_slice(self.alloc, body)?,
+        };
+        match self.ask(request) {
+            Ok(answer) => Ok(done(answer)),
+            Err(fault) => Err(fault),
+        }
+    }
+
+    fn get(&mut self, name: &[u8], limit: u32) -> Result<Option<Bytes>, CloudFault>
+        ensures truth { TellsTruth self.old self.new (CloudRequest.Get name.now limit) (said found result) }
+        ensures counted { IsCounted self.old.faults self.new.faults (said found result) }
+        ensures logged { IsLogged (Some self.old.log) (Some self.new.log) (CloudRequest.Get name.now limit) (said found result) }
+        ensures stored { IsStored (Some self.old.objects) (Some self.new.objects) (CloudRequest.Get name.now limit) (said found result) }
+    {
+        let request = CloudRequest::Get {
+            name: Bytes::from_slice(self.alloc, name)?,
+            limit,
+        };
+        match self.ask(request) {
+            Ok(answer) => Ok(bytes_of(answer)),
+            Err(fault) => Err(fault),
+        }
+    }
+
+    fn delete(&mut self, name: &[u8]) -> Result<(), CloudFault>
+        ensures truth { TellsTruth self.old self.new (CloudRequest.Delete name.now) (said acked result) }
+        ensures counted { IsCounted self.old.faults self.new.faults (said acked result) }
+        ensures logged { IsLogged (Some self.old.log) (Some self.new.log) (CloudRequest.Delete name.now) (said acked result) }
+        ensures stored { IsStored (Some self.old.objects) (Some self.new.objects) (CloudRequest.Delete name.now) (said acked result) }
+    {
+        let request = CloudRequest::Delete {
+            name: Bytes::from_slice(self.alloc, name)?,
+        };
+        match self.ask(request) {
+            Ok(answer) => Ok(done(answer)),
+            Err(fault) => Err(fault),
+        }
+    }
+
+    fn list(&mut self, prefix: &[u8]) -> Result<NameList, CloudFault>
+        ensures truth { TellsTruth self.old self.new (CloudRequest.List prefix.now) (said CloudAnswer.Names result) }
+        ensures counted { IsCounted self.old.faults self.new.faults (said CloudAnswer.Names result) }
+        ensures logged { IsLogged (Some self.old.log) (Some self.new.log) (CloudRequest.List prefix.now) (said CloudAnswer.Names result) }
+        ensures stored { IsStored (Some self.old.objects) (Some self.new.objects) (CloudRequest.List prefix.now) (said CloudAnswer.Names result) }
+    {
+        let request = CloudRequest::List {
+            prefix: Bytes::from_slice(self.alloc, prefix)?,
+        };
+        match self.ask(request) {
+            Ok(answer) => Ok(names_of(self.alloc, answer)),
+            Err(fault) => Err(fault),
+        }
     }
 }
