@@ -1,5 +1,5 @@
 -- Clouds in memory: one that is truthful, and one whose answers are said beforehand.
-use Rattle.std.specs.Prelude.{◌≡◌, ◌==◌, ℕ, List, [], ◌∷◌, drop, Bool, Option, Some, None, if◌then◌else◌}
+use Rattle.std.specs.Prelude.{◌≡◌, ◌==◌, ℕ, List, [], ◌∷◌, drop, Option, Some, None, if◌then◌else◌}
 use Rattle.std.specs.List.{list_any}
 use Rattle.std.specs.List.Sorted.{IsStrictlySortedBy}
 use Rattle.std.specs.Map.{keys_of}
@@ -79,3 +79,8 @@ SaysNext old new request (Some answer) = (answer ≡ said_answer old.answers req
 -- the names stand in byte order, each once
 abbrev pub AreOrdered : Objects → Type 0
 AreOrdered objects = IsStrictlySortedBy (slice_cmp nat_cmp) (keys_of objects)
+
+-- a failure is counted, and nothing else
+abbrev pub CountsFault : ℕ → ℕ → Option CloudAnswer → Type 0
+CountsFault before now None = now ≡ before
+CountsFault before now (Some answer) = now ≡ faults_after answer before
