@@ -17,3 +17,6 @@ pub use file_names::object_names_are_read;
 pub use folder::DirCloud;
 pub use memory::MemCloud;
 pub use said::SaidCloud;
+
+#[cfg(test)]
+mod tests;
