@@ -1,7 +1,8 @@
+ghost use Rattle.std.specs.Prelude.{IfOk, IsTrue};
 ghost use Rattle.scfs_base.specs.declared.cloud.CloudAnswer.TheVariants as CloudAnswer;
+ghost use Rattle.scfs_cloud.specs.Cutting.{suits};
 ghost use Rattle.scfs_cloud.specs.Asking.{Asks, IsCounted, IsLogged, IsStored, said, same};
 ghost use Rattle.scfs_cloud.specs.Kinds.{IsGiven, IsOfKind};
-ghost use Rattle.std.specs.Prelude.{IfOk};
 
 use crate::cutting::cut_answer;
 use crate::{Cloud, CloudFault};
@@ -14,6 +15,7 @@ fn call<C: Cloud>(cloud: &mut C, request: &CloudRequest) -> Result<CloudAnswer, 
     ensures logged { IsLogged (C.log cloud.old) (C.log cloud.new) request.now (said same result) }
     ensures stored { IsStored (C.store cloud.old) (C.store cloud.new) request.now (said same result) }
     ensures kind { IfOk result (IsOfKind request.now) }
+    ensures suited { IfOk result (λ answer. IsTrue (suits request.now answer)) }
 {
     match request {
         CloudRequest::Put { name, body } => match cloud.put(name.as_slice(), body.as_slice()) {
