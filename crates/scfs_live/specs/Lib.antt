@@ -7,5 +7,6 @@ pub mod Given
 pub mod Recording
 pub mod Asked
 pub mod Hearing
+pub mod Able
 pub mod Turning
 pub mod Drives

@@ -1,0 +1,7 @@
+pub mod EdgeLemmas
+pub mod RoundLemmas
+pub mod DrivenLemmas
+pub mod StoreLemmas
+pub mod AskedLemmas
+pub mod AllAsked
+pub mod RowDriven
