@@ -1,3 +1,9 @@
+pub mod AllAsked
+pub mod AskedLemmas
+pub mod DrivenLemmas
 pub mod EdgeLemmas
 pub mod KeepingLemmas
 pub mod LineLemmas
+pub mod RoundLemmas
+pub mod RowDriven
+pub mod StoreLemmas

@@ -6,7 +6,7 @@ use Rattle.scfs_base.specs.declared.cloud.CloudAnswer.TheVariants as answers
 use Rattle.scfs_base.specs.declared.cloud.CloudRequest.{CloudRequest}
 use Rattle.scfs_schedule.specs.declared.types.Event.{Event}
 use Rattle.scfs_schedule.specs.declared.types.Event.TheVariants as events
-use Rattle.scfs_net.specs.Queues.{CloudState, NetState, cloud_at, objects_with}
+use Rattle.scfs_net.specs.Queues.{NetState, cloud_at, objects_with}
 use Rattle.scfs_net.specs.Store.{Objects}
 use Rattle.scfs_net.specs.declared.messages.Asked.{Asked}
 use Rattle.scfs_cloud.specs.Cutting.{cut_answer}
@@ -60,20 +60,18 @@ abbrev pub Logged : (before now : Option (List Exchange)) → (recorded more : L
 Logged None now recorded more = Unit {0}
 Logged (Some log) now recorded more = (asked : List Exchange) × (now ≡ Some (log ++ asked ++ more)) × (map as_recorded asked ≡ recorded)
 
--- a store is in step with a history: it is what the cloud holds after it
+-- a store that is told is in step with a history: it is what cloud c holds after it
 abbrev pub InStep : Setup → (c : ℕ) → History → Option Objects → Type 0
-InStep s c past None = Unit {0}
-InStep s c past (Some objects) = objects ≡ (cloud_at (net s past) c).objects
+InStep s c past store = store ≡ Some (cloud_at (net s past) c).objects
 
 -- what a cloud holds, once it served the oldest request that waits
-abbrev pub served_oldest : CloudState → List Asked → Objects
-served_oldest cloud [] = cloud.objects
-served_oldest cloud (oldest ∷ waiting) = objects_with cloud.objects oldest.body
+abbrev pub served_oldest : Objects → List Asked → Objects
+served_oldest objects [] = objects
+served_oldest objects (oldest ∷ waiting) = objects_with objects oldest.body
 
--- a store is one ahead of a history: the oldest request that waits was served too
+-- a store that is told is one ahead of a history: the oldest request that waits was served too
 abbrev pub OneAhead : Setup → (c : ℕ) → History → Option Objects → Type 0
-OneAhead s c past None = Unit {0}
-OneAhead s c past (Some objects) = objects ≡ served_oldest (cloud_at (net s past) c) (cloud_at (net s past) c).requests
+OneAhead s c past store = store ≡ Some (served_oldest (cloud_at (net s past) c).objects (cloud_at (net s past) c).requests)
 
 -- a real cloud over new events: its count of faults never fell, and rose where they record a failure; its log got the exchanges
 -- that they record; a store that was in step still is
@@ -90,7 +88,7 @@ pub record IsAskedMore (s : Setup) (new past : History) (c : ℕ) (before now : 
   pub later : before.faults ≤ now.faults
   pub failed : RecordsFail c new → Rose before.faults now.faults
   pub logged : Logged before.log now.log (exchanges s c new past) more
-  pub in_step : InStep s c past before.store → InStep s c (new ++ past) now.store ⊎ OneAhead s c (new ++ past) now.store
+  pub in_step : InStep s c past before.store → (InStep s c (new ++ past) now.store ⊎ OneAhead s c (new ++ past) now.store)
 
 -- the clouds over new events, each as it was and as it is
 pub record AreAsked (s : Setup) (new past : History) (before now : List Told) : Type 0 where

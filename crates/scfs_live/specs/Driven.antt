@@ -87,3 +87,30 @@ IsWhole s script new old = next_event s script new old answers.Fail ≡ None
 pub record IsLive (s : Setup) (script : List Event) (new old : History) (live : Live) : Type 0 where
   pub driven : IsDriven s script new old
   pub at : live_after s script new old ≡ Some live
+
+-- The run of a script by drives. The first is given no event.
+abbrev pub RunsBegin : Type 0
+RunsBegin =
+    (s : Setup) (script : List Event) (new old : History) (driver : Driver) → IsDrivenFrom s (begins_with s None) new old driver
+    → IsLive s script new old (record { driver = driver; script = script })
+
+-- Where a drive came to its end, the next is given the script's next event, and comes to its end as well.
+abbrev pub RunsGoOn : Type 0
+RunsGoOn =
+    (s : Setup) (script : List Event) (new old : History) (driver : Driver) (event : Event) (rest : List Event) (more : History) (after : Driver)
+    → IsLive s script new old (record { driver = driver; script = event ∷ rest }) → IsSettled s driver (new ++ old)
+    → IsDrivenFrom s (begins_with s (Some event)) more (new ++ old) after → IsSettled s after (more ++ (new ++ old))
+    → IsLive s script (more ++ new) old (record { driver = after; script = rest })
+
+-- Or it ends before: its events are those of the script's run.
+abbrev pub RunsStop : Type 0
+RunsStop =
+    (s : Setup) (script : List Event) (new old : History) (driver : Driver) (event : Event) (rest : List Event) (more : History) (after : Driver)
+    → IsLive s script new old (record { driver = driver; script = event ∷ rest }) → IsSettled s driver (new ++ old)
+    → IsDrivenFrom s (begins_with s (Some event)) more (new ++ old) after → IsDriven s script (more ++ new) old
+
+-- Where the last drive came to its end and no event of the script is left, the run is whole.
+abbrev pub RunsEnd : Type 0
+RunsEnd =
+    (s : Setup) (script : List Event) (new old : History) (driver : Driver) → IsLive s script new old (record { driver = driver; script = [] })
+    → IsSettled s driver (new ++ old) → IsWhole s script new old

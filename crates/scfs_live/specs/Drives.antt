@@ -1,5 +1,5 @@
 -- The contract of a drive.
-use Rattle.std.specs.Prelude.{◌≡◌, ◌<◌, ◌+◌, ◌*◌, ℕ, List, ◌++◌, length, All, Option, Some, None, IfSome}
+use Rattle.std.specs.Prelude.{◌≡◌, ℕ, List, ◌++◌, length, Option}
 use Rattle.scfs_base.specs.Limits.{events_limit}
 use Rattle.scfs_policy.specs.declared.rank.RankFacts.{RankFacts}
 use Rattle.scfs_schedule.specs.declared.types.Event.{Event}
@@ -12,7 +12,6 @@ use Rattle.scfs_world.specs.State.{WorldState}
 use Rattle.scfs_live.specs.Asked.{AreAsked, AreAskedMore, Told}
 use Rattle.scfs_live.specs.Driven.{ComesNext, IsDrivenFrom, IsSettled}
 use Rattle.scfs_live.specs.Driving.{Driver, begins_with}
-use Rattle.scfs_live.specs.Given.{IsWork}
 use Rattle.scfs_live.specs.Recording.{IsTooLargeNext, ShowedPart, WroteAll, WrotePart}
 use Rattle.scfs_live.specs.declared.ending.LiveEnd.{LiveEnd}
 use Rattle.scfs_live.specs.declared.ending.LiveEnd.TheVariants as ends
@@ -84,9 +83,3 @@ pub record Ends (allows : RankFacts → ℕ → Type 0) (end : LiveEnd) (header 
   pub due : EndIsDue allows end header after (new ++ past)
   pub wrote : EndWrites end j j' o o' new past
   pub asked : EndAsks end header new past clouds clouds'
-
--- a driver under a header, once what was given is done: it is to work at agents and clouds that there are
-pub record Fits (header : Header) (driver : Driver) : Type 0 where
-  pub given : driver.given ≡ None
-  pub work : All (IsWork (length header.agents) (3 * header.f + 1)) driver.work
-  pub called : IfSome driver.called (λ a. a < length header.agents)

@@ -1,5 +1,5 @@
--- What comes next is done: a real cloud is asked for its answer first.
-use Rattle.std.specs.Prelude.{◌≡◌, ◌≢◌, ◌<◌, ◌+◌, ◌*◌, ℕ, List, [], ◌∷◌, length, true, Option, Some, Result, Ok, Err, IfOk, slice_get}
+-- What is asked of the real clouds for what comes next.
+use Rattle.std.specs.Prelude.{◌≡◌, ◌≢◌, ℕ, List, [], ◌∷◌, length, Some, Result, Ok, Err, IfOk, slice_get}
 use Rattle.scfs_base.specs.declared.cloud.CloudAnswer.{CloudAnswer}
 use Rattle.scfs_base.specs.declared.cloud.CloudRequest.{CloudRequest}
 use Rattle.scfs_base.specs.declared.outside.Memory.{Memory}
@@ -7,30 +7,11 @@ use Rattle.scfs_cloud.specs.Asking.{Asks}
 use Rattle.scfs_cloud.specs.Kinds.{IsGiven}
 use Rattle.scfs_net.specs.Queues.{NetState, cloud_at}
 use Rattle.scfs_net.specs.declared.messages.Asked.{Asked}
-use Rattle.scfs_schedule.specs.Grammar.{IsEvent, IsScriptEvent}
 use Rattle.scfs_schedule.specs.declared.types.Event.{Event}
-use Rattle.scfs_schedule.specs.declared.types.Header.{Header}
-use Rattle.scfs_world.specs.Built.{is_built}
 use Rattle.scfs_live.specs.Asked.{Told}
 use Rattle.scfs_live.specs.Driven.{answer_in}
-use Rattle.scfs_live.specs.Waits.{Waits, request_waits}
 use Rattle.scfs_live.specs.declared.driver.Next.{Next}
 use Rattle.scfs_live.specs.declared.driver.Next.TheVariants.{Does, Hears}
-
--- an event that can be done under a header
-pub record CanBeDone (header : Header) (event : Event) : Type 0 where
-  pub fits : IsEvent header event
-  pub built : is_built event ≡ true
-
--- an event that a drive can be given: one of a script
-pub record CanBeGiven (header : Header) (event : Event) : Type 0 where
-  pub done : CanBeDone header event
-  pub script : IsScriptEvent event
-
--- what comes next can be done: its event can, or a request waits at its cloud
-abbrev pub CanBeNext : Header → Waits → Next → Type 0
-CanBeNext header waits (Does event) = CanBeDone header event
-CanBeNext header waits (Hears c) = (c < 3 * header.f + 1) × (request_waits waits c ≡ true)
 
 -- a cloud was asked this, with that result
 pub record AsksAs (request : CloudRequest) (result : Result CloudAnswer Memory) (before now : Told) : Type 0 where

@@ -1,3 +1,4 @@
+pub mod Able
 pub mod Asked
 pub mod Driven
 pub mod Drives

@@ -5,7 +5,8 @@ ghost use Rattle.scfs_world.specs.Stepping.{IsWorld};
 ghost use Rattle.scfs_live.specs.Asked.{told};
 ghost use Rattle.scfs_live.specs.Driven.{answer_in};
 ghost use Rattle.scfs_live.specs.Driving.{event_of};
-ghost use Rattle.scfs_live.specs.Hearing.{answer_made, AsksAs, AtOne, CanBeDone, CanBeNext, Heard};
+ghost use Rattle.scfs_live.specs.Able.{CanBeDone, CanBeNext};
+ghost use Rattle.scfs_live.specs.Hearing.{answer_made, AsksAs, AtOne, Heard};
 ghost use Rattle.scfs_live.specs.Waits.{waits_in};
 
 use crate::driver::Next;
