@@ -1,5 +1,5 @@
 -- How far an old journal was run again.
-use Rattle.std.proofs.Common.{◌≡◌, ◌≤◌, ℕ, ◌+◌, List, [], ◌∷◌, ◌++◌, refl, ap, ◌∙◌, sym, subst, Some, None, length, length-append, inl, inr, arith, Ok, Err}
+use Rattle.std.proofs.Common.{◌≡◌, ◌≤◌, ℕ, ◌+◌, List, [], ◌∷◌, ◌++◌, refl, ap, ◌∙◌, sym, subst, Option, Some, None, length, length-append, inl, inr, arith, Ok, Err}
 use Rattle.scfs_policy.specs.declared.rank.RankFacts.{RankFacts}
 use Rattle.scfs_schedule.specs.Splitting.{GivesLine, Split, Splitting, lines_of, no_lines, unsplit}
 use Rattle.scfs_schedule.specs.declared.types.Header.{Header}
@@ -14,8 +14,8 @@ use Rattle.scfs_live.specs.Finding.{found}
 use Rattle.scfs_live.specs.Keeping.{unkept}
 use Rattle.scfs_live.specs.Limits.{journal_limit}
 use Rattle.scfs_live.specs.Reopened.{EndsAgain, EndsLines, Passes, RunsAll, StopsAt, old_lines}
-use Rattle.scfs_live.specs.Reopening.{EndsAt, GoesOn, IsAt, RunsAgain, Walk, Walks, unwalked}
-use Rattle.scfs_live.specs.Rereading.{IsSoFar}
+use Rattle.scfs_live.specs.Reopening.{EndsAt, Follows, GoesOn, IsAt, RunsAgain, Walk, Walks, unwalked}
+use Rattle.scfs_live.specs.Rereading.{GivesNext, IsSoFar}
 use Rattle.scfs_live.specs.Taking.{Fed}
 use Rattle.scfs_live.proofs.SplitLemmas.{gave_all, gave_fed, gave_line, gave_more, gave_nothing, passed_limit}
 use Rattle.scfs_live.proofs.WalkLemmas.{walks_then}
@@ -52,17 +52,20 @@ module _ (allows : RankFacts → ℕ → Type 0) (header : Header) where
   }
 
   -- a line more was run again
-  pub far_line : (taken line : List ℕ) (old new : Splitting) (running next : Running) (far : IsSoFar allows header taken old running) (number : ℕ)
-      → GivesLine (Ok (Some line)) old new → GoesOn allows header far.place number (found header far.place.awaited line) (Ok next)
-      → IsSoFar allows header taken new next
-  far_line taken line old new running next far number gives goes_on = record {
-    done = far.done ++ line ∷ [];
-    place = goes_on.0;
-    gave = gave_line journal_limit whichs.Journal taken far.done line old new far.gave gives.5;
-    number = omega (arith, gives.2, far.number, length-append far.done (line ∷ []));
-    walks = walks_then header (unwalked header) far.done far.place goes_on.0 line far.walks goes_on.1;
-    at = goes_on.2;
-  }
+  pub far_line : (taken line text : List ℕ) (old new : Splitting) (running next : Running) (far : IsSoFar allows header taken old running) (number : ℕ)
+      (given : Option (List ℕ)) → given ≡ Some line → text ≡ line → GivesNext (Ok given) old new
+      → GoesOn allows header far.place number (found header far.place.awaited text) (Ok next) → IsSoFar allows header taken new next
+  far_line taken line text old new running next far number given some same gives_next goes_on =
+      let gives : GivesLine (Ok (Some line)) old new = subst (λ x. GivesNext (Ok x) old new) some gives_next in
+      record {
+        done = far.done ++ line ∷ [];
+        place = goes_on.0;
+        gave = gave_line journal_limit whichs.Journal taken far.done line old new far.gave gives.5;
+        number = omega (arith, gives.2, far.number, length-append far.done (line ∷ []));
+        walks = walks_then header (unwalked header) far.done far.place goes_on.0 line far.walks
+            (subst (λ t. Follows (found header far.place.awaited t) far.place goes_on.0) same goes_on.1);
+        at = goes_on.2;
+      }
 
   -- a line ends it
   ends_lines : (taken : List ℕ) (end : LiveEnd) → StopsAt allows header taken end → EndsLines allows header taken end
@@ -79,11 +82,12 @@ module _ (allows : RankFacts → ℕ → Type 0) (header : Header) where
   ends_lines taken (ends.Unbuilt line) stops = stops
   ends_lines taken (ends.Differs line kept made) stops = stops
 
-  pub far_stop : (taken line : List ℕ) (old new : Splitting) (running : Running) (end : LiveEnd) (far : IsSoFar allows header taken old running)
-      → GivesLine (Ok (Some line)) old new → GoesOn allows header far.place new.number (found header far.place.awaited line) (Err end)
-      → EndsLines allows header taken end
-  far_stop taken line old new running end far gives ended =
-      let number : new.number ≡ length far.done + 1 = omega (arith, gives.2, far.number) in
+  pub far_stop : (taken line text : List ℕ) (old new : Splitting) (running : Running) (end : LiveEnd) (far : IsSoFar allows header taken old running) (number : ℕ)
+      (given : Option (List ℕ)) → given ≡ Some line → text ≡ line → number ≡ new.number → GivesNext (Ok given) old new
+      → GoesOn allows header far.place number (found header far.place.awaited text) (Err end) → EndsLines allows header taken end
+  far_stop taken line text old new running end far number given some same count gives_next ended =
+      let gives : GivesLine (Ok (Some line)) old new = subst (λ x. GivesNext (Ok x) old new) some gives_next in
+      let at : number ≡ length far.done + 1 = omega (arith, gives.2, far.number, count) in
       let gave = gave_line journal_limit whichs.Journal taken far.done line old new far.gave gives.5 in
       ends_lines taken end
       (record {
@@ -93,7 +97,8 @@ module _ (allows : RankFacts → ℕ → Type 0) (header : Header) where
         place = far.place;
         whole = gave_more journal_limit whichs.Journal taken far.done line new gave;
         runs = record { walks = far.walks; plays = far.at.plays };
-        ends = subst (λ n. EndsAt allows header far.place.past n (found header far.place.awaited line) end) number ended;
+        ends = subst (λ n. EndsAt allows header far.place.past n (found header far.place.awaited line) end) at
+            (subst (λ t. EndsAt allows header far.place.past number (found header far.place.awaited t) end) same ended);
       })
 
   -- all its lines so far were run again
@@ -115,6 +120,24 @@ module _ (allows : RankFacts → ℕ → Type 0) (header : Header) where
         | inl is ↦ subst (λ w. EndsLines allows header taken (ends.TooLarge w)) (sym is) (subst (λ w. Passes allows header taken w) is passes)
         | inr is ↦ subst (λ w. EndsLines allows header taken (ends.TooLarge w)) (sym is) (subst (λ w. Passes allows header taken w) is passes)
       ]
+
+  -- none was there
+  pub far_none : (taken : List ℕ) (old new : Splitting) (running : Running) (given : Option (List ℕ)) → IsSoFar allows header taken old running → given ≡ None
+      → GivesNext (Ok given) old new → IsSoFar allows header taken new running
+  far_none taken old new running given far none gives_next =
+      let gives : GivesLine (Ok None) old new = subst (λ x. GivesNext (Ok x) old new) none gives_next in
+      subst (λ (s : Splitting). IsSoFar allows header taken s running) (sym gives.1) far
+
+  -- what gives no line ends it
+  pub far_next : (taken : List ℕ) (lines new : Splitting) (running : Running) (end : LiveEnd) → IsSoFar allows header taken lines running → GivesNext (Err end) lines new
+      → EndsLines allows header taken end
+  far_next taken lines new running (ends.TooLarge which) far gives = far_limit taken lines running which far gives
+  far_next taken lines new running ends.Memory far gives = tt
+  far_next taken lines new running (ends.ReadFault which) far gives = absurd gives
+  far_next taken lines new running (ends.WriteFault which) far gives = absurd gives
+  far_next taken lines new running (ends.Bad bad) far gives = absurd gives
+  far_next taken lines new running (ends.Unbuilt line) far gives = absurd gives
+  far_next taken lines new running (ends.Differs line kept made) far gives = absurd gives
 
   -- it was run again to its end
   pub far_all : (taken : List ℕ) (lines : Splitting) (running : Running) (far : IsSoFar allows header taken lines running) → lines_of lines [] ≡ no_lines None
