@@ -1,5 +1,6 @@
 -- How far an old journal was run again.
 use Rattle.std.proofs.Common.{◌≡◌, ◌≤◌, ℕ, ◌+◌, List, [], ◌∷◌, ◌++◌, refl, ap, ◌∙◌, sym, subst, Option, Some, None, length, length-append, inl, inr, arith, Ok, Err}
+use Rattle.scfs_base.specs.Outside.{Takes}
 use Rattle.scfs_policy.specs.declared.rank.RankFacts.{RankFacts}
 use Rattle.scfs_schedule.specs.Splitting.{GivesLine, Split, Splitting, lines_of, no_lines, unsplit}
 use Rattle.scfs_schedule.specs.declared.types.Header.{Header}
@@ -15,9 +16,10 @@ use Rattle.scfs_live.specs.Keeping.{unkept}
 use Rattle.scfs_live.specs.Limits.{journal_limit}
 use Rattle.scfs_live.specs.Reopened.{EndsAgain, EndsLines, Passes, RunsAll, StopsAt, old_lines}
 use Rattle.scfs_live.specs.Reopening.{EndsAt, Follows, GoesOn, IsAt, RunsAgain, Walk, Walks, unwalked}
-use Rattle.scfs_live.specs.Rereading.{GivesNext, IsSoFar}
+use Rattle.scfs_live.specs.Rereading.{GivesNext, IsSoFar, StopsReading}
 use Rattle.scfs_live.specs.Taking.{Fed}
-use Rattle.scfs_live.proofs.SplitLemmas.{gave_all, gave_fed, gave_line, gave_more, gave_nothing, passed_limit}
+use Rattle.scfs_live.proofs.EdgeLemmas.{takes_then}
+use Rattle.scfs_live.proofs.SplitLemmas.{gave_all, gave_fed, gave_line, gave_more, gave_nothing, passed_limit, within_limit}
 use Rattle.scfs_live.proofs.WalkLemmas.{walks_then}
 
 module _ (allows : RankFacts → ℕ → Type 0) (header : Header) where
@@ -145,3 +147,33 @@ module _ (allows : RankFacts → ℕ → Type 0) (header : Header) where
   far_all taken lines running far none =
       let all = gave_all journal_limit whichs.Journal taken far.done lines None far.gave none in
       record { within = ap (λ (x : Split). x.passed) all; runs = all_run taken lines running far _ all refl }
+
+  -- lines that were fed are not what failed
+  pub no_fault : (taken : List ℕ) (end : LiveEnd) → EndsLines allows header taken end → end ≡ ends.ReadFault whichs.Journal → ⊥
+  no_fault taken end ends_lines is = let stops : StopsAt allows header taken (ends.ReadFault whichs.Journal) = subst (EndsLines allows header taken) is ends_lines in stops.ends
+
+  pub ends_again : (taken : List ℕ) (end : LiveEnd) → EndsLines allows header taken end → EndsAgain allows header taken end
+  ends_again taken (ends.ReadFault whichs.Journal) stops = absurd stops.ends
+  ends_again taken (ends.ReadFault whichs.Line) stops = stops
+  ends_again taken (ends.ReadFault whichs.Events) stops = stops
+  ends_again taken (ends.ReadFault whichs.Input) stops = stops
+  ends_again taken (ends.ReadFault whichs.Objects) stops = stops
+  ends_again taken (ends.ReadFault whichs.Out) stops = stops
+  ends_again taken ends.Memory stops = stops
+  ends_again taken (ends.TooLarge which) stops = stops
+  ends_again taken (ends.WriteFault which) stops = stops
+  ends_again taken (ends.Bad bad) stops = stops
+  ends_again taken (ends.Unbuilt line) stops = stops
+  ends_again taken (ends.Differs line kept made) stops = stops
+
+  -- reading stops with these bytes taken
+  pub stops_reading : (left now after : Option (List ℕ)) (taken piece : List ℕ) (end : LiveEnd) → Takes left now taken → Takes now after piece
+      → EndsLines allows header (taken ++ piece) end → StopsReading allows header left after end
+  stops_reading left now after taken piece end takes more stops =
+      record { taken = taken ++ piece; takes = takes_then left now after taken piece takes more; ends = ends_again (taken ++ piece) end stops }
+
+  -- more bytes than the limit are not run again
+  pub far_within : (taken : List ℕ) (lines : Splitting) (running : Running) (room : ℕ) → IsSoFar allows header taken lines running → lines_of lines [] ≡ no_lines None
+      → length taken + room ≡ journal_limit + 1 → room ≤ 0 → ⊥
+  far_within taken lines running room far none count full =
+      let few = within_limit journal_limit whichs.Journal taken (far_all taken lines running far none).within in omega (arith, few, count, full)
