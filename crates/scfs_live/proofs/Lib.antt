@@ -2,8 +2,11 @@ pub mod AllAsked
 pub mod AskedLemmas
 pub mod DrivenLemmas
 pub mod EdgeLemmas
+pub mod FarLemmas
 pub mod KeepingLemmas
 pub mod LineLemmas
 pub mod RoundLemmas
 pub mod RowDriven
+pub mod SplitLemmas
 pub mod StoreLemmas
+pub mod WalkLemmas

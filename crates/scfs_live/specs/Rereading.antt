@@ -3,7 +3,7 @@ use Rattle.std.specs.Prelude.{◌≡◌, ℕ, List, [], ◌++◌, length, Option
 use Rattle.scfs_base.specs.Outside.{Takes}
 use Rattle.scfs_policy.specs.declared.rank.RankFacts.{RankFacts}
 use Rattle.scfs_schedule.specs.Holding.{is_unfinished}
-use Rattle.scfs_schedule.specs.Splitting.{GivesLine, Split, Splitting, lines_of, no_lines}
+use Rattle.scfs_schedule.specs.Splitting.{GivesLine, Splitting, lines_of, no_lines}
 use Rattle.scfs_schedule.specs.declared.types.Header.{Header}
 use Rattle.scfs_schedule.specs.declared.types.Which.TheVariants as whichs
 use Rattle.scfs_live.specs.declared.ending.LiveEnd.{LiveEnd}
@@ -13,10 +13,7 @@ use Rattle.scfs_live.specs.declared.running.Running.{Running}
 use Rattle.scfs_live.specs.Edges.{GetsPart}
 use Rattle.scfs_live.specs.Reopened.{EndsAgain, ReadsAll, old_lines}
 use Rattle.scfs_live.specs.Reopening.{IsAt, Walk, Walks, unwalked}
-
--- lines before those that are given later
-abbrev pub with_lines : List (List ℕ) → Split → Split
-with_lines lines later = record later { lines = lines ++ later.lines }
+use Rattle.scfs_live.specs.Taking.{with_lines}
 
 -- the next line of what was fed, or how that ended
 abbrev pub GivesNext : Result (Option (List ℕ)) LiveEnd → Splitting → Splitting → Type 0
@@ -35,10 +32,10 @@ pub record IsSoFar (allows : RankFacts → ℕ → Type 0) (header : Header) (ta
   pub at : IsAt allows header place running
 
 -- an old journal was read to its end and run again
-pub record Rereads (allows : RankFacts → ℕ → Type 0) (header : Header) (left left' : Option (List ℕ)) (ends ends' : ℕ) (reread : Reread) : Type 0 where
+pub record Rereads (allows : RankFacts → ℕ → Type 0) (header : Header) (left left' : Option (List ℕ)) (ends_then ends_now : ℕ) (reread : Reread) : Type 0 where
   pub taken : List ℕ
   pub place : Walk
-  pub reads : ReadsAll allows header left left' ends ends' taken place
+  pub reads : ReadsAll allows header left left' ends_then ends_now taken place
   pub at : IsAt allows header place reread.running
   pub unfinished : is_unfinished taken ≡ reread.unfinished
 

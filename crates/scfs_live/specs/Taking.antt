@@ -2,9 +2,13 @@
 use Rattle.std.specs.Prelude.{◌≡◌, ◌≤◌, ◌<◌, ℕ, List, [], ◌++◌, length, Option, IfSome}
 use Rattle.scfs_base.specs.Outside.{Takes}
 use Rattle.scfs_schedule.specs.Holding.{is_unfinished}
-use Rattle.scfs_schedule.specs.Splitting.{Splitting, lines_of}
+use Rattle.scfs_schedule.specs.Splitting.{Split, Splitting, lines_of}
 use Rattle.scfs_live.specs.declared.pieces.PieceRead.{PieceRead}
 use Rattle.scfs_live.specs.declared.pieces.PieceRead.TheVariants as reads
+
+-- lines before those that are given later
+abbrev pub with_lines : List (List ℕ) → Split → Split
+with_lines lines later = record later { lines = lines ++ later.lines }
 
 -- these bytes were fed and no line was given: the lines that are given later were given with them in front
 pub record Fed (old : Splitting) (taken : List ℕ) (new : Splitting) : Type 0 where

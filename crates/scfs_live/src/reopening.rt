@@ -16,7 +16,7 @@ use crate::limits::JOURNAL_LIMIT;
 use crate::pieces::{PieceRead, feed_piece};
 use crate::running::Running;
 use crate::writing::write_all;
-use scfs_base::{Bytes, Memory, Sink, Source};
+use scfs_base::{Bytes, Failed, Memory, Sink, Source};
 use scfs_policy::{RankFacts, RankRule};
 use scfs_schedule::{Header, Lines, Stop, Which};
 use scfs_world::{World, standing_worlds_are_shown};
@@ -139,13 +139,13 @@ fn write_missing<J: Sink>(
     ensures later { J.faults journal.old ≤ J.faults journal.new }
 {
     let text = awaited.text(alloc)?;
-    if write_all(journal, mark_if(unfinished)).is_err() {
-        return Err(LiveEnd::WriteFault(Which::Journal));
+    match write_all(journal, mark_if(unfinished)) {
+        Err(Failed) => Err(LiveEnd::WriteFault(Which::Journal)),
+        Ok(()) => match write_all(journal, text.as_slice()) {
+            Err(Failed) => Err(LiveEnd::WriteFault(Which::Journal)),
+            Ok(()) => Ok(()),
+        },
     }
-    if write_all(journal, text.as_slice()).is_err() {
-        return Err(LiveEnd::WriteFault(Which::Journal));
-    }
-    Ok(())
 }
 
 /// Writes what is missing, and gives the world.
