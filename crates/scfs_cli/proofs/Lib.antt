@@ -6,4 +6,6 @@ pub mod PaceLemmas
 pub mod PlayedLemmas
 pub mod ReplayLemmas
 pub mod RunLemmas
+pub mod ScriptEvents
+pub mod ScriptLemmas
 pub mod TurnLemmas

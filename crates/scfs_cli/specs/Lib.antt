@@ -3,6 +3,10 @@ pub mod Edges
 pub mod Finishing
 pub mod Giving
 pub mod Headline
+pub mod Outer
 pub mod Pace
 pub mod Playing
 pub mod Plays
+pub mod Running
+pub mod Scripting
+pub mod Underway

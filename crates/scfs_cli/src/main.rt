@@ -15,6 +15,8 @@ mod malformed;
 mod play;
 #[cfg(test)]
 mod rows;
+mod run;
+mod stopping;
 mod streams;
 #[cfg(test)]
 mod tests;
