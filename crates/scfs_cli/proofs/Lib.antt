@@ -1,7 +1,9 @@
 pub mod ClosingLemmas
+pub mod ComingLemmas
 pub mod EdgeLemmas
 pub mod GivingLemmas
 pub mod GoingLemmas
+pub mod LiveLemmas
 pub mod PaceLemmas
 pub mod PlayedLemmas
 pub mod ReplayLemmas
@@ -9,3 +11,4 @@ pub mod RunLemmas
 pub mod ScriptEvents
 pub mod ScriptLemmas
 pub mod TurnLemmas
+pub mod UnderwayLemmas

@@ -1,0 +1,274 @@
+-- A run of a script underway, and how it ends.
+use Rattle.std.proofs.Common.{◌≡◌, ◌≤◌, ◌<◌, ◌^◌, ◌⊎◌, inl, inr, ⊎_elim, ℕ, List, [], ◌∷◌, ◌++◌, Option, Some, None, Ok, Err, refl, ap, ◌∙◌, sym, subst, append_assoc, append-nil, arith, length}
+use Rattle.scfs_base.specs.Limits.{events_limit}
+use Rattle.scfs_base.specs.Outside.{Rose}
+use Rattle.scfs_policy.specs.declared.rank.RankFacts.{RankFacts}
+use Rattle.scfs_schedule.specs.Grammar.{IsHeader}
+use Rattle.scfs_schedule.specs.declared.types.Event.{Event}
+use Rattle.scfs_schedule.specs.declared.types.Header.{Header}
+use Rattle.scfs_schedule.specs.declared.types.Which.TheVariants as whichs
+use Rattle.scfs_model.specs.Format.{Setup}
+use Rattle.scfs_model.specs.History.{History}
+use Rattle.scfs_model.specs.Runs.{Happens}
+use Rattle.scfs_model.specs.UnitFormat.{under}
+use Rattle.scfs_laws.specs.Held.{ReadsHeld}
+use Rattle.scfs_laws.specs.Laws.{RunsWithoutClash}
+use Rattle.scfs_laws.specs.Newest.{OpensNewest}
+use Rattle.scfs_world.specs.Happening.{IsPlayed, Stands}
+use Rattle.scfs_world.specs.State.{WorldState}
+use Rattle.scfs_live.specs.Asked.{AreAsked, Told}
+use Rattle.scfs_live.specs.Driven.{ComesNext, IsDriven, IsSettled, IsWhole, answer_in, next_event}
+use Rattle.scfs_live.specs.Drives.{Drives, EndIsDue, Ends}
+use Rattle.scfs_live.specs.Driving.{Driver, begins_with}
+use Rattle.scfs_live.specs.Recording.{WroteAll}
+use Rattle.scfs_live.specs.declared.ending.LiveEnd.{LiveEnd}
+use Rattle.scfs_live.specs.declared.ending.LiveEnd.TheVariants as lives
+use Rattle.scfs_live.proofs.AllAsked.{are_asked_no_more, are_asked_none}
+use Rattle.scfs_live.proofs.EdgeLemmas.{puts_nothing}
+use Rattle.scfs_cli.specs.declared.closing.Filled.TheVariants as filleds
+use Rattle.scfs_cli.specs.declared.intake.Intake.{Intake}
+use Rattle.scfs_cli.specs.declared.stopping.RunEnd.{RunEnd}
+use Rattle.scfs_cli.specs.declared.stopping.RunEnd.TheVariants as runs
+use Rattle.scfs_cli.specs.Outer.{SourceView}
+use Rattle.scfs_cli.specs.Playing.{Playing}
+use Rattle.scfs_cli.specs.Plays.{Known}
+use Rattle.scfs_cli.specs.Running.{KeepsToHeader, KeepsUp, ReadsScript, RunAsks, RunIsDue, RunWrites, SomeNext}
+use Rattle.scfs_cli.specs.Scripting.{script_of}
+use Rattle.scfs_cli.specs.Underway.{EndsScript, GivesEvent, ReachesOn, Reached, ScriptSoFar}
+use Rattle.scfs_cli.proofs.ComingLemmas.{IsComing, coming_first, coming_given, coming_more, coming_next, coming_whole}
+use Rattle.scfs_cli.proofs.LiveLemmas.{are_asked_then, end_asks_then, end_writes_then, wrote_then}
+use Rattle.scfs_cli.proofs.ScriptLemmas.{leads_further}
+
+-- what is known of a history that was played
+pub known_of : (allows : RankFacts → ℕ → Type 0) (header : Header) (past : History) → RunsWithoutClash → ((s : Setup) (past : History) → Happens s past → ReadsHeld s past)
+    → ((s : Setup) (past : History) → length past < 2 ^ 24 → Happens s past → OpensNewest past) → IsHeader header → length past ≤ events_limit
+    → IsPlayed allows header past → Known allows header past
+known_of allows header past runs held newest is few plays = record {
+  plays = plays;
+  held = held (under header) past plays.happens;
+  newest = newest (under header) past (omega (arith, few)) plays.happens;
+  run = λ apart. runs header past is plays.happens plays.served plays.events apart;
+}
+
+-- what was done so far of a run behind an old history, and what a driver demands then; journal, out and clouds went from there to here
+pub record Behind (allows : RankFacts → ℕ → Type 0) (header : Header) (past : History) (world : WorldState) (driver : Driver) (intake : Intake)
+    (input input' : SourceView) (j j' o o' : Option (List ℕ)) (clouds clouds' : List Told) : Type 0 where
+  pub done : List Event
+  pub new : History
+  pub script : ScriptSoFar input input' intake header done
+  pub coming : (later : List Event) → IsComing (under header) (done ++ later) new past driver later
+  pub stands : Stands world header (new ++ past)
+  pub plays : IsPlayed allows header (new ++ past)
+  pub wrote : WroteAll j j' o o' new past
+  pub asked : AreAsked (under header) new past clouds clouds'
+  pub pace : KeepsToHeader script.taken ⊎ KeepsUp (under header) new past script.taken
+
+-- before the first drive
+pub begins : (allows : RankFacts → ℕ → Type 0) (header : Header) (past : History) (world : WorldState) (intake : Intake) (input input' : SourceView) (j o : Option (List ℕ))
+    (clouds : List Told) → Stands world header past → IsPlayed allows header past → (script : ScriptSoFar input input' intake header []) → KeepsToHeader script.taken
+    → Behind allows header past world (begins_with (under header) None) intake input input' j j o o clouds clouds
+begins allows header past world intake input input' j o clouds stands plays script pace = record {
+  done = [];
+  new = [];
+  script = script;
+  coming = λ later. coming_first (under header) later past;
+  stands = stands;
+  plays = plays;
+  wrote = record { journal = puts_nothing j; out = puts_nothing o };
+  asked = are_asked_none (under header) past clouds;
+  pace = inl pace;
+}
+
+-- with more new events the same bytes are early ones
+keeps_up : (s : Setup) (more new past : History) (taken : List ℕ) → KeepsToHeader taken ⊎ KeepsUp s new past taken → KeepsToHeader taken ⊎ KeepsUp s (more ++ new) past taken
+keeps_up s more new past taken pace =
+    ⊎_elim (λ first. inl first)
+    (λ p. inr (record {
+      split = p.split;
+      older = p.older;
+      newer = more ++ p.newer;
+      first = ap (λ (h : History). more ++ h) p.first ∙ sym (append_assoc more p.newer p.older);
+      driven = p.driven;
+      whole = p.whole;
+    }))
+    pace
+
+-- what a run writes and asks, and why it ended, of all its new events
+pub record Ending (allows : RankFacts → ℕ → Type 0) (header : Header) (past : History) (taken : List ℕ) (j j' o o' : Option (List ℕ)) (clouds clouds' : List Told)
+    (end : RunEnd) : Type 0 where
+  pub new : History
+  pub stated : (script_of taken).header ≡ Some header
+  pub few : length (new ++ past) ≤ events_limit
+  pub plays : IsPlayed allows header (new ++ past)
+  pub driven : IsDriven (under header) (script_of taken).events new past
+  pub due : RunIsDue allows end header (script_of taken) new past
+  pub wrote : RunWrites end j j' o o' new past
+  pub asked : RunAsks end header new past clouds clouds'
+  pub pace : KeepsToHeader taken ⊎ KeepsUp (under header) new past taken
+
+module _ (allows : RankFacts → ℕ → Type 0) (header : Header) (past : History) (world : WorldState) (driver : Driver) (intake : Intake) (input now : SourceView)
+    (j j1 o o1 : Option (List ℕ)) (clouds mid : List Told) (b : Behind allows header past world driver intake input now j j1 o o1 clouds mid) where
+  -- a drive came to its end
+  pub drove_on : (given : Option Event) (after : WorldState) (j2 o2 : Option (List ℕ)) (clouds' : List Told) → driver ≡ begins_with (under header) given
+      → (d : Drives allows header given (b.new ++ past) after j1 j2 o1 o2 mid clouds')
+      → (next : Behind allows header past after d.driver intake input now j j2 o o2 clouds clouds') × (next.new ≡ d.going.new ++ b.new)
+      × IsSettled (under header) d.driver (next.new ++ past)
+  drove_on given after j2 o2 clouds' begun d =
+      let s = under header in
+      let more = d.going.new in
+      let same : more ++ (b.new ++ past) ≡ (more ++ b.new) ++ past = sym (append_assoc more b.new past) in (
+        record {
+          done = b.done;
+          new = more ++ b.new;
+          script = b.script;
+          coming = λ later. coming_more s (b.done ++ later) later past more b.new (begins_with s given) d.driver
+              (subst (λ (x : Driver). IsComing s (b.done ++ later) b.new past x later) begun (b.coming later)) d.going.drove.driven;
+          stands = subst (λ (h : History). Stands after header h) same d.going.stands;
+          plays = subst (λ (h : History). IsPlayed allows header h) same d.going.drove.plays;
+          wrote = wrote_then j j1 j2 o o1 o2 b.new past b.wrote more d.going.wrote;
+          asked = are_asked_then s b.new past clouds mid clouds' b.asked more d.going.asked;
+          pace = keeps_up s more b.new past b.script.taken b.pace;
+        },
+        refl,
+        subst (λ (h : History). IsSettled s d.driver h) same d.settled,
+      )
+
+  next_then : (rest : List Event) (more : History) (after : Driver) → IsComing (under header) (b.done ++ rest) (more ++ b.new) past after rest
+      → (script : Playing) → b.done ++ rest ≡ script.events → (event : Event) (beyond : Driver) → ComesNext (under header) after ((more ++ b.new) ++ past) event beyond
+      → next_event (under header) script.events (more ++ b.new) past (answer_in event) ≡ Some event
+  next_then rest more after coming script same event beyond comes =
+      subst (λ (l : List Event). next_event (under header) l (more ++ b.new) past (answer_in event) ≡ Some event) same
+      (coming_next (under header) (b.done ++ rest) rest past (more ++ b.new) after beyond event coming comes)
+
+  -- a drive ended before
+  due_then : (why : LiveEnd) (rest : List Event) (more : History) (after : Driver) → IsComing (under header) (b.done ++ rest) (more ++ b.new) past after rest
+      → (script : Playing) → b.done ++ rest ≡ script.events → EndIsDue allows why header after ((more ++ b.new) ++ past)
+      → RunIsDue allows (runs.Stopped why) header script (more ++ b.new) past
+  due_then (lives.TooLarge whichs.Events) rest more after coming script same due =
+      (due.0, record { event = due.1.event; comes = next_then rest more after coming script same due.1.event due.1.beyond due.1.next; so = tt })
+  due_then (lives.TooLarge whichs.Objects) rest more after coming script same due =
+      record { event = due.event; comes = next_then rest more after coming script same due.event due.beyond due.next; so = due.so }
+  due_then (lives.TooLarge whichs.Input) rest more after coming script same due = tt
+  due_then (lives.TooLarge whichs.Journal) rest more after coming script same due = tt
+  due_then (lives.TooLarge whichs.Line) rest more after coming script same due = tt
+  due_then (lives.TooLarge whichs.Out) rest more after coming script same due = tt
+  due_then (lives.WriteFault which) rest more after coming script same due = tt
+  due_then (lives.ReadFault which) rest more after coming script same due = tt
+  due_then (lives.Bad bad) rest more after coming script same due = tt
+  due_then (lives.Unbuilt line) rest more after coming script same due = tt
+  due_then (lives.Differs line kept made) rest more after coming script same due = tt
+  due_then lives.Memory rest more after coming script same due = tt
+
+  pub drove_to : (given : Option Event) (why : LiveEnd) (j2 o2 : Option (List ℕ)) (clouds' : List Told) → driver ≡ begins_with (under header) given
+      → Ends allows why header given (b.new ++ past) j1 j2 o1 o2 mid clouds' → Ending allows header past b.script.taken j j2 o o2 clouds clouds' (runs.Stopped why)
+  drove_to given why j2 o2 clouds' begun d =
+      let s = under header in
+      let more = d.new in
+      let same : more ++ (b.new ++ past) ≡ (more ++ b.new) ++ past = sym (append_assoc more b.new past) in
+      let says = leads_further input now intake header b.done b.script [] in
+      let taken : b.script.taken ++ [] ≡ b.script.taken = append-nil b.script.taken in
+      let stated = subst (λ l. (script_of l).header ≡ Some header) taken says.1 in
+      let events = subst (λ l. (script_of l).events ≡ b.done ++ says.0) taken says.2 in
+      let coming : IsComing s (b.done ++ says.0) (more ++ b.new) past d.after says.0 =
+      coming_more s (b.done ++ says.0) says.0 past more b.new (begins_with s given) d.after
+      (subst (λ (x : Driver). IsComing s (b.done ++ says.0) b.new past x says.0) begun (b.coming says.0)) d.drove.driven in
+      record {
+        new = more ++ b.new;
+        stated = stated;
+        few = subst (λ (h : History). length h ≤ events_limit) same d.few;
+        plays = subst (λ (h : History). IsPlayed allows header h) same d.drove.plays;
+        driven = subst (λ (l : List Event). IsDriven s l (more ++ b.new) past) (sym events) coming.driven;
+        due = due_then why says.0 more d.after coming (script_of b.script.taken) (sym events)
+            (subst (λ (h : History). EndIsDue allows why header d.after h) same d.due);
+        wrote = end_writes_then j j1 j2 o o1 o2 b.new past b.wrote why more d.wrote;
+        asked = end_asks_then why header more b.new past clouds mid clouds' b.asked d.asked;
+        pace = keeps_up s more b.new past b.script.taken b.pace;
+      }
+
+  -- all was settled before the script was read on
+  module _ (settled : IsSettled (under header) driver (b.new ++ past)) where
+    driven_done : IsDriven (under header) b.done b.new past
+    driven_done = subst (λ (l : List Event). IsDriven (under header) l b.new past) (append-nil b.done) (b.coming []).driven
+
+    whole_done : IsWhole (under header) b.done b.new past
+    whole_done =
+        subst (λ (l : List Event). IsWhole (under header) l b.new past) (append-nil b.done) (coming_whole (under header) (b.done ++ []) b.new past driver (b.coming []) settled)
+
+    reach : (taken : List ℕ) → ReachesOn b.done b.script.taken taken → KeepsToHeader taken ⊎ KeepsUp (under header) b.new past taken
+    reach taken on =
+        ⊎_elim (λ same. subst (λ l. KeepsToHeader l ⊎ KeepsUp (under header) b.new past l) (sym same) b.pace)
+        (λ r. inr (record {
+          split = r.split;
+          older = b.new;
+          newer = [];
+          first = refl;
+          driven = subst (λ (l : List Event). IsDriven (under header) l b.new past) (sym r.events) driven_done;
+          whole = subst (λ (l : List Event). IsWhole (under header) l b.new past) (sym r.events) whole_done;
+        }))
+        on
+
+    -- a further event was read
+    pub given_next : (now' : SourceView) (intake' : Intake) (count : ℕ) (event : Event)
+        → GivesEvent b.script.taken input now' intake' header b.done count (Ok event)
+        → Behind allows header past world (begins_with (under header) (Some event)) intake' input now' j j1 o o1 clouds mid
+    given_next now' intake' count event g =
+        let s = under header in
+        record {
+          done = b.done ++ event ∷ [];
+          new = b.new;
+          script = g.0;
+          coming = λ later.
+              let coming = coming_given s (b.done ++ event ∷ later) later past b.new driver event (b.coming (event ∷ later)) settled in
+              subst (λ (l : List Event). IsComing s l b.new past (begins_with s (Some event)) later) (sym (append_assoc b.done (event ∷ []) later)) coming;
+          stands = b.stands;
+          plays = b.plays;
+          wrote = b.wrote;
+          asked = b.asked;
+          pace = reach g.0.taken g.1;
+        }
+
+    -- or the script ended the run
+    end_of_script : (count : ℕ) (end : RunEnd) (taken : List ℕ) → count ≡ length (b.new ++ past) → EndsScript end header b.done count (script_of taken)
+        → ((script_of taken).header ≡ Some header) × IsDriven (under header) (script_of taken).events b.new past × RunIsDue allows end header (script_of taken) b.new past
+        × RunWrites end j j1 o o1 b.new past × RunAsks end header b.new past clouds mid
+    end_of_script count (runs.Finished total finish filled) taken counts ends =
+        let events : (script_of taken).events ≡ b.done = ap (λ (p : Playing). p.events) ends.1 in (
+          ap (λ (p : Playing). p.header) ends.1,
+          subst (λ (l : List Event). IsDriven (under header) l b.new past) (sym events) driven_done,
+          (sym (ap (λ (p : Playing). p.finish) ends.1), record {
+            counts = ends.0 ∙ counts;
+            whole = subst (λ (l : List Event). IsWhole (under header) l b.new past) (sym events) whole_done;
+          }),
+          b.wrote,
+          b.asked,
+        )
+    end_of_script count (runs.Stopped lives.Memory) taken counts ends = (
+      ends.1,
+      subst (λ (l : List Event). IsDriven (under header) l b.new past) (sym ends.2) (b.coming ends.0).driven,
+      tt,
+      b.wrote,
+      are_asked_no_more (under header) b.new past clouds mid b.asked,
+    )
+    end_of_script count (runs.Stopped (lives.ReadFault which)) taken counts ends = absurd ends
+    end_of_script count (runs.Stopped (lives.WriteFault which)) taken counts ends = absurd ends
+    end_of_script count (runs.Stopped (lives.TooLarge which)) taken counts ends = absurd ends
+    end_of_script count (runs.Stopped (lives.Bad bad)) taken counts ends = absurd ends
+    end_of_script count (runs.Stopped (lives.Unbuilt line)) taken counts ends = absurd ends
+    end_of_script count (runs.Stopped (lives.Differs line kept made)) taken counts ends = absurd ends
+
+    pub ended : (count : ℕ) (end : RunEnd) (taken : List ℕ) → count ≡ length (b.new ++ past) → length (b.new ++ past) ≤ events_limit
+        → ReachesOn b.done b.script.taken taken → EndsScript end header b.done count (script_of taken)
+        → Ending allows header past taken j j1 o o1 clouds mid end
+    ended count end taken counts few on ends =
+        let all = end_of_script count end taken counts ends in
+        record {
+          new = b.new;
+          stated = all.0;
+          few = few;
+          plays = b.plays;
+          driven = all.1;
+          due = all.2;
+          wrote = all.3;
+          asked = all.4;
+          pace = reach taken on;
+        }
