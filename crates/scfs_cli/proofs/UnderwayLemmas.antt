@@ -1,9 +1,10 @@
 -- A run of a script underway, and how it ends.
-use Rattle.std.proofs.Common.{◌≡◌, ◌≤◌, ◌<◌, ◌^◌, ◌⊎◌, inl, inr, ⊎_elim, ℕ, List, [], ◌∷◌, ◌++◌, Option, Some, None, Ok, Err, refl, ap, ◌∙◌, sym, subst, append_assoc, append-nil, arith, length}
+use Rattle.std.proofs.Common.{◌≡◌, ◌≤◌, ◌<◌, ◌^◌, ◌+◌, ◌-◌, ◌⊎◌, inl, inr, ⊎_elim, ℕ, List, [], ◌∷◌, ◌++◌, Option, Some, None, Ok, Err, refl, ap, ◌∙◌, sym, subst, append_assoc, append-nil, arith, length, length-append}
 use Rattle.scfs_base.specs.Limits.{events_limit}
-use Rattle.scfs_base.specs.Outside.{Rose}
+use Rattle.scfs_base.specs.Outside.{Puts, Rose}
 use Rattle.scfs_policy.specs.declared.rank.RankFacts.{RankFacts}
 use Rattle.scfs_schedule.specs.Grammar.{IsHeader}
+use Rattle.scfs_schedule.specs.Holding.{is_unfinished}
 use Rattle.scfs_schedule.specs.declared.types.Event.{Event}
 use Rattle.scfs_schedule.specs.declared.types.Header.{Header}
 use Rattle.scfs_schedule.specs.declared.types.Which.TheVariants as whichs
@@ -20,24 +21,35 @@ use Rattle.scfs_live.specs.Asked.{AreAsked, Told}
 use Rattle.scfs_live.specs.Driven.{ComesNext, IsDriven, IsSettled, IsWhole, answer_in, next_event}
 use Rattle.scfs_live.specs.Drives.{Drives, EndIsDue, Ends}
 use Rattle.scfs_live.specs.Driving.{Driver, begins_with}
+use Rattle.scfs_live.specs.Keeping.{missing}
 use Rattle.scfs_live.specs.Recording.{WroteAll}
+use Rattle.scfs_live.specs.Reopened.{ReadsAll}
+use Rattle.scfs_live.specs.Finding.{found}
+use Rattle.scfs_live.specs.Reopening.{Follows, Walk, Walks}
 use Rattle.scfs_live.specs.declared.ending.LiveEnd.{LiveEnd}
 use Rattle.scfs_live.specs.declared.ending.LiveEnd.TheVariants as lives
+use Rattle.scfs_live.specs.declared.finding.Found.{Found}
+use Rattle.scfs_live.specs.declared.finding.Found.TheVariants as founds
 use Rattle.scfs_live.proofs.AllAsked.{are_asked_no_more, are_asked_none}
 use Rattle.scfs_live.proofs.EdgeLemmas.{puts_nothing}
 use Rattle.scfs_cli.specs.declared.closing.Filled.TheVariants as filleds
 use Rattle.scfs_cli.specs.declared.intake.Intake.{Intake}
 use Rattle.scfs_cli.specs.declared.stopping.RunEnd.{RunEnd}
 use Rattle.scfs_cli.specs.declared.stopping.RunEnd.TheVariants as runs
-use Rattle.scfs_cli.specs.Outer.{SourceView}
+use Rattle.scfs_cli.specs.Outer.{SinkView, SourceView}
 use Rattle.scfs_cli.specs.Playing.{Playing}
 use Rattle.scfs_cli.specs.Plays.{Known}
-use Rattle.scfs_cli.specs.Running.{KeepsToHeader, KeepsUp, ReadsScript, RunAsks, RunIsDue, RunWrites, SomeNext}
+use Rattle.scfs_cli.specs.Running.{KeepsToHeader, KeepsUp, ReadsScript, RunAsks, RunIsDue, RunWrites, RunsOn, SomeNext}
 use Rattle.scfs_cli.specs.Scripting.{script_of}
 use Rattle.scfs_cli.specs.Underway.{EndsScript, GivesEvent, ReachesOn, Reached, ScriptSoFar}
-use Rattle.scfs_cli.proofs.ComingLemmas.{IsComing, coming_first, coming_given, coming_more, coming_next, coming_whole}
+use Rattle.scfs_cli.proofs.ComingLemmas.{IsComing, coming_first, coming_given, coming_more, coming_next, coming_whole, some_done}
 use Rattle.scfs_cli.proofs.LiveLemmas.{are_asked_then, end_asks_then, end_writes_then, wrote_then}
 use Rattle.scfs_cli.proofs.ScriptLemmas.{leads_further}
+
+-- 1 before the first event
+abbrev pub one_if_none : {X : Type 0} → Option X → ℕ
+one_if_none None = 1
+one_if_none (Some x) = 0
 
 -- what is known of a history that was played
 pub known_of : (allows : RankFacts → ℕ → Type 0) (header : Header) (past : History) → RunsWithoutClash → ((s : Setup) (past : History) → Happens s past → ReadsHeld s past)
@@ -49,6 +61,23 @@ known_of allows header past runs held newest is few plays = record {
   newest = newest (under header) past (omega (arith, few)) plays.happens;
   run = λ apart. runs header past is plays.happens plays.served plays.events apart;
 }
+
+-- the script so far, where the run ended before its next event
+pub reads_open : (input now : SourceView) (intake : Intake) (header : Header) (done : List Event) (s : ScriptSoFar input now intake header done)
+    → ReadsScript input now s.taken filleds.Open
+reads_open input now intake header done s = record {
+  takes = s.takes;
+  few = omega (arith, s.room);
+  full = λ is. cc;
+  nothing_left = λ is. cc;
+  ended = λ is. cc;
+  failed = λ is. cc;
+}
+
+pub states : (input now : SourceView) (intake : Intake) (header : Header) (done : List Event) (s : ScriptSoFar input now intake header done)
+    → (script_of s.taken).header ≡ Some header
+states input now intake header done s =
+    subst (λ l. (script_of l).header ≡ Some header) (append-nil s.taken) (leads_further input now intake header done s []).1
 
 -- what was done so far of a run behind an old history, and what a driver demands then; journal, out and clouds went from there to here
 pub record Behind (allows : RankFacts → ℕ → Type 0) (header : Header) (past : History) (world : WorldState) (driver : Driver) (intake : Intake)
@@ -166,15 +195,13 @@ module _ (allows : RankFacts → ℕ → Type 0) (header : Header) (past : Histo
       let more = d.new in
       let same : more ++ (b.new ++ past) ≡ (more ++ b.new) ++ past = sym (append_assoc more b.new past) in
       let says = leads_further input now intake header b.done b.script [] in
-      let taken : b.script.taken ++ [] ≡ b.script.taken = append-nil b.script.taken in
-      let stated = subst (λ l. (script_of l).header ≡ Some header) taken says.1 in
-      let events = subst (λ l. (script_of l).events ≡ b.done ++ says.0) taken says.2 in
+      let events = subst (λ l. (script_of l).events ≡ b.done ++ says.0) (append-nil b.script.taken) says.2 in
       let coming : IsComing s (b.done ++ says.0) (more ++ b.new) past d.after says.0 =
       coming_more s (b.done ++ says.0) says.0 past more b.new (begins_with s given) d.after
       (subst (λ (x : Driver). IsComing s (b.done ++ says.0) b.new past x says.0) begun (b.coming says.0)) d.drove.driven in
       record {
         new = more ++ b.new;
-        stated = stated;
+        stated = states input now intake header b.done b.script;
         few = subst (λ (h : History). length h ≤ events_limit) same d.few;
         plays = subst (λ (h : History). IsPlayed allows header h) same d.drove.plays;
         driven = subst (λ (l : List Event). IsDriven s l (more ++ b.new) past) (sym events) coming.driven;
@@ -272,3 +299,67 @@ module _ (allows : RankFacts → ℕ → Type 0) (header : Header) (past : Histo
           asked = all.4;
           pace = reach taken on;
         }
+
+-- the promise of a run that was driven
+pub runs_on : (allows : RankFacts → ℕ → Type 0) (old old' : SourceView) (out out' journal journal' : SinkView) (clouds clouds' : List Told) (header : Header) (text : List ℕ)
+    (place : Walk) (reopened : Option (List ℕ)) (taken : List ℕ) (end : RunEnd) → ReadsAll allows header old.left old'.left old.ends old'.ends text place
+    → Puts journal.written reopened (missing (is_unfinished text) place.awaited)
+    → (e : Ending allows header place.past taken reopened journal'.written out.written out'.written clouds clouds' end) → Known allows header (e.new ++ place.past)
+    → (end ≡ runs.Stopped (lives.WriteFault whichs.Journal) → Rose journal.faults journal'.faults)
+    → (end ≡ runs.Stopped (lives.WriteFault whichs.Out) → Rose out.faults out'.faults) → RunsOn allows taken old old' out out' journal journal' clouds clouds' end
+runs_on allows old old' out out' journal journal' clouds clouds' header text place reopened taken end reads filled_in e known journal_failed out_failed = record {
+  header = header;
+  stated = e.stated;
+  text = text;
+  place = place;
+  reads = reads;
+  reopened = reopened;
+  filled_in = filled_in;
+  new = e.new;
+  known = known;
+  driven = e.driven;
+  due = e.due;
+  wrote = e.wrote;
+  asked = e.asked;
+  pace = e.pace;
+  journal_failed = journal_failed;
+  out_failed = out_failed;
+}
+
+-- counts of faults go on
+pub rose_since : (a b c : ℕ) → a ≤ b → Rose b c → Rose a c
+rose_since a b c h r = omega arith
+
+not_none : {X : Type 0} (l : List X) → (l ≡ [] → ⊥) → 1 ≤ length l
+not_none [] some = absurd (some refl)
+not_none (x ∷ l) some = omega arith
+
+-- a drive that was given an event does at least one more
+pub counts_on : (allows : RankFacts → ℕ → Type 0) (header : Header) (given : Option Event) (past : History) (before : ℕ) (after : WorldState) (j j' o o' : Option (List ℕ))
+    (clouds clouds' : List Told) → Drives allows header given past after j j' o o' clouds clouds' → before ≡ length past → before + 1 ≤ after.events + one_if_none given
+counts_on allows header None past before after j j' o o' clouds clouds' d same =
+    omega (arith, same, d.going.stands.count, length-append d.going.new past)
+counts_on allows header (Some event) past before after j j' o o' clouds clouds' d same =
+    let some = not_none d.going.new (some_done (under header) event d.going.new past d.driver d.going.drove.driven d.settled) in
+    omega (arith, same, some, d.going.stands.count, length-append d.going.new past)
+
+-- an old journal that was run again has no more events than there may be
+follows_few : (found : Found) (old new : Walk) → Follows found old new → length old.past ≤ events_limit → length new.past ≤ events_limit
+follows_few founds.LeftOut old new is few = subst (λ (w : Walk). length w.past ≤ events_limit) (sym is) few
+follows_few founds.KeepsHeader old new is few = subst (λ (w : Walk). length w.past ≤ events_limit) (sym is) few
+follows_few founds.KeepsLine old new is few = subst (λ (w : Walk). length w.past ≤ events_limit) (sym is) few
+follows_few (founds.Does event) old new is few = subst (λ (w : Walk). length w.past ≤ events_limit) (sym is.2.2) is.1
+follows_few (founds.Differs kept made) old new is few = absurd is
+follows_few (founds.Wrong kind) old new is few = absurd is
+
+pub walks_few : (header : Header) (lines : List (List ℕ)) (old new : Walk) → Walks header old lines new → length old.past ≤ events_limit → length new.past ≤ events_limit
+walks_few header [] old new walks few = subst (λ (w : Walk). length w.past ≤ events_limit) (sym walks) few
+walks_few header (line ∷ lines) old new walks few =
+    walks_few header lines walks.0 new walks.2 (follows_few (found header old.awaited line) old walks.0 walks.1 few)
+
+pub same_why : (why other : LiveEnd) → runs.Stopped why ≡ runs.Stopped other → why ≡ other
+same_why why other h = cc
+
+-- the run goes on with fewer events to come
+pub fewer : (before after none : ℕ) → before ≤ events_limit → after ≤ events_limit → before + 1 ≤ after + none → (events_limit - after) + 0 < (events_limit - before) + none
+fewer before after none few few' more = omega (arith, few, few', more)

@@ -14,12 +14,8 @@ use Rattle.scfs_live.specs.Keeping.{missing}
 use Rattle.scfs_live.specs.Reopened.{ReadsAll}
 use Rattle.scfs_live.specs.Reopening.{Walk}
 use Rattle.scfs_cli.specs.Outer.{source}
-use Rattle.scfs_cli.proofs.UnderwayLemmas.{Behind}
+use Rattle.scfs_cli.proofs.UnderwayLemmas.{Behind, one_if_none}
 use Rattle.scfs_cli.proofs.run.run.Given as goal
-
-abbrev pub one_if_none : {X : Type 0} → Option X → ℕ
-one_if_none None = 1
-one_if_none (Some x) = 0
 
 abbrev pub decreases-events : goal.decreases-events
 decreases-events g l = (events_limit - l.world.events) + one_if_none l.given
