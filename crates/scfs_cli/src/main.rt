@@ -1,10 +1,12 @@
-//! `scfs` replays a recorded schedule of a shared file system: it reads the schedule from standard input and writes the
-//! transcript to standard output.
+//! `scfs` plays a recorded schedule of a shared file system: it reads the schedule from standard input and writes its transcript, or the
+//! tree that it leaves, to standard output.
 #![tactic(auto)]
 
 mod built;
 mod call;
 mod closing;
+mod command;
+mod dump;
 mod edges;
 mod intake;
 mod limits;
@@ -18,6 +20,7 @@ mod rows;
 mod streams;
 #[cfg(test)]
 mod tests;
+mod tree_rows;
 mod waiting;
 
 use call::scfs;
