@@ -1,7 +1,12 @@
 pub mod ClosingLemmas
+pub mod DumpLemmas
+pub mod DumpedTree
+pub mod DumpingLemmas
 pub mod EdgeLemmas
 pub mod GivingLemmas
 pub mod GoingLemmas
+pub mod HeaderFirst
+pub mod LeavingLemmas
 pub mod PaceLemmas
 pub mod PlayedLemmas
 pub mod ReplayLemmas

@@ -1,4 +1,4 @@
-use Rattle.std.specs.Prelude.{◌≡◌, ◌≤◌, ℕ, ◌+◌, List, [], ◌∷◌, ◌++◌, false, length, Option, Some, None, IfSome}
+use Rattle.std.specs.Prelude.{◌≡◌, ◌≤◌, ℕ, ◌+◌, List, [], ◌++◌, false, length, Option, Some, None, IfSome}
 use Rattle.scfs_base.specs.Limits.{input_limit}
 use Rattle.scfs_base.specs.Outside.{Takes, Puts, Rose}
 use Rattle.scfs_schedule.specs.declared.types.Header.{Header}
