@@ -7,6 +7,8 @@ mod call;
 mod closing;
 mod command;
 mod dump;
+#[cfg(test)]
+mod dumped;
 mod edges;
 mod intake;
 mod limits;
