@@ -94,7 +94,8 @@ fails_then : (c : ℕ) (more new : History) → RecordsFail c (more ++ new) → 
 fails_then c [] new fails = inr fails
 fails_then c (e ∷ more) new fails = ⊎_elim (λ here. inl (inl here)) (λ there. ⊎_elim (λ x. inl (inr x)) (λ y. inr y) (fails_then c more new there)) fails
 
-rose_later : (a b c : ℕ) → Rose a b → b ≤ c → Rose a c
+-- counts of faults go on
+pub rose_later : (a b c : ℕ) → Rose a b → b ≤ c → Rose a c
 rose_later a b c r h = omega arith
 
 rose_before : (a b c : ℕ) → a ≤ b → Rose b c → Rose a c

@@ -1,4 +1,7 @@
 pub mod Closing
+pub mod Command
+pub mod Dump
+pub mod Dumping
 pub mod Edges
 pub mod Finishing
 pub mod Giving
@@ -9,4 +12,5 @@ pub mod Playing
 pub mod Plays
 pub mod Running
 pub mod Scripting
+pub mod TreeRows
 pub mod Underway

@@ -1,5 +1,5 @@
 -- The promise of a run of a script over real clouds.
-use Rattle.std.specs.Prelude.{◌≡◌, ◌≤◌, ◌⊎◌, ℕ, ◌+◌, List, [], ◌++◌, length, Option, Some, None, IfSome}
+use Rattle.std.specs.Prelude.{◌≡◌, ◌≤◌, ◌⊎◌, ℕ, ◌+◌, List, [], ◌++◌, length, Bool, true, false, Option, Some, None, IfSome}
 use Rattle.scfs_base.specs.Limits.{events_limit, input_limit}
 use Rattle.scfs_base.specs.Outside.{Takes, Puts, Rose}
 use Rattle.scfs_policy.specs.declared.rank.RankFacts.{RankFacts}
@@ -172,15 +172,20 @@ abbrev pub closing_of_run : RunEnd → Option LastLine
 closing_of_run (runs.Finished count finish filled) = closing_of count finish filled
 closing_of_run (runs.Stopped why) = live_closing why
 
+-- whether writing had failed
+abbrev pub writing_failed : RunEnd → Bool
+writing_failed (runs.Stopped (lives.WriteFault which)) = true
+writing_failed other = false
+
 -- the last line was written; with none nothing more was, for want of memory
-abbrev pub ClosesWith : Option LastLine → (before after : Option (List ℕ)) → Status → Type 0
-ClosesWith (Some last) before after status = Closes last before after status
-ClosesWith None before after status = (after ≡ before) × (status ≡ statuses.Memory)
+abbrev pub ClosesBy : Option LastLine → (before after : Option (List ℕ)) → Status → Type 0
+ClosesBy (Some last) before after status = Closes last before after status
+ClosesBy None before after status = (after ≡ before) × (status ≡ statuses.Memory)
 
 -- the last line was written and gives the status; where writing had failed, nothing more was written
 abbrev pub ClosesRun : RunEnd → (before after : Option (List ℕ)) → Status → Type 0
 ClosesRun (runs.Stopped (lives.WriteFault which)) before after status = (after ≡ before) × (status ≡ statuses.WriteFault)
-ClosesRun end before after status = ClosesWith (closing_of_run end) before after status
+ClosesRun end before after status = ClosesBy (closing_of_run end) before after status
 
 -- The call's promise for a script: a run came to an end, out having got what it shows; and then the last line was written, by that end.
 pub record RunsScript (allows : RankFacts → ℕ → Type 0) (input input' old old' : SourceView) (out : SinkView) (after : Option (List ℕ)) (journal journal' : SinkView)

@@ -1,12 +1,19 @@
-//! `scfs` replays a recorded schedule of a shared file system: it reads the schedule from standard input and writes the
-//! transcript to standard output.
+//! `scfs` plays a recorded schedule of a shared file system: it reads the schedule from standard input and writes its transcript, or the
+//! tree that it leaves, to standard output. Or it runs a script over folders as clouds, and keeps what happens in the file `scfs.journal`.
 #![tactic(auto)]
 
 mod built;
 mod call;
 mod closing;
+mod command;
+mod dump;
+#[cfg(test)]
+mod dumped;
 mod edges;
 mod intake;
+mod journal;
+#[cfg(test)]
+mod journaled;
 mod limits;
 #[cfg(test)]
 mod lives;
@@ -20,15 +27,21 @@ mod stopping;
 mod streams;
 #[cfg(test)]
 mod tests;
+mod tree_rows;
 mod waiting;
 
 use call::scfs;
 use closing::Status;
+use journal::{JournalIn, JournalOut};
 use limits::EVENTS_LIMIT;
+use scfs_cloud::DirCloud;
 use scfs_policy::{RankFacts, RankRule};
 use std::process::ExitCode;
 use std::{env, io};
 use streams::{Incoming, Outgoing};
+
+/// The journal's file, in the current folder.
+const JOURNAL: &str = "scfs.journal";
 
 /// The words behind the program's name; none where one of them is no text.
 fn words(rt: &HostRuntime) -> io::Result<Vec<String>> {
@@ -45,14 +58,45 @@ fn words(rt: &HostRuntime) -> io::Result<Vec<String>> {
     Ok(words)
 }
 
+/// A folder as a cloud.
+fn cloud<'a>(rt: &'a HostRuntime, folder: &'a str) -> DirCloud<'a, HostRuntime> {
+    DirCloud::new(rt.alloc(), rt, folder)
+}
+
+/// Does what the words ask, over the standard streams, the journal file and ten folders as clouds.
+fn obey(rt: &HostRuntime, words: &[String]) -> Status {
+    let mut input = Incoming::new(rt.reader());
+    let mut old = JournalIn::new(rt, JOURNAL);
+    let mut out = Outgoing::new(io::writer(rt));
+    let mut journal = JournalOut::new(rt, JOURNAL);
+    let mut clouds = [
+        cloud(rt, "cloud0"),
+        cloud(rt, "cloud1"),
+        cloud(rt, "cloud2"),
+        cloud(rt, "cloud3"),
+        cloud(rt, "cloud4"),
+        cloud(rt, "cloud5"),
+        cloud(rt, "cloud6"),
+        cloud(rt, "cloud7"),
+        cloud(rt, "cloud8"),
+        cloud(rt, "cloud9"),
+    ];
+    let rank = RankRule::new(|facts: RankFacts| u64::from(facts.bad));
+    scfs(
+        rt.alloc(),
+        words,
+        &mut input,
+        &mut old,
+        &mut out,
+        &mut journal,
+        &mut clouds,
+        &rank,
+    )
+}
+
 fn main(rt: HostRuntime) -> ExitCode {
     let status = match words(&rt) {
-        Ok(words) => {
-            let mut input = Incoming::new(rt.reader());
-            let mut out = Outgoing::new(io::writer(&rt));
-            let rank = RankRule::new(|facts: RankFacts| u64::from(facts.bad));
-            scfs(rt.alloc(), words.as_slice(), &mut input, &mut out, &rank)
-        }
+        Ok(words) => obey(&rt, words.as_slice()),
         Err(_) => Status::Memory,
     };
     ExitCode::from(status.number())

@@ -1,7 +1,7 @@
 //! How a run over real clouds ends, and its last line.
 
 ghost use Rattle.std.specs.Prelude.{◌≡◌};
-ghost use Rattle.scfs_cli.specs.Running.{closing_of_run, live_closing};
+ghost use Rattle.scfs_cli.specs.Running.{closing_of_run, live_closing, writing_failed};
 
 use crate::closing::{Filled, Finish, LastLine, LineFault, closing_line};
 use scfs_live::LiveEnd;
@@ -12,6 +12,13 @@ use scfs_live::LiveEnd;
 pub enum RunEnd {
     Finished(u64, Finish, Filled),
     Stopped(LiveEnd),
+}
+
+/// Whether a run ended so because writing failed.
+pub fn writing_failed(end: &RunEnd) -> bool
+    ensures { result ≡ writing_failed end.now }
+{
+    matches!(end, RunEnd::Stopped(LiveEnd::WriteFault(_)))
 }
 
 /// The last line of a run that ended so; none where writing failed or memory was wanting.

@@ -2,6 +2,7 @@ use crate::call::scfs;
 use crate::closing::Status;
 use crate::malformed::repeated;
 use scfs_base::{Bytes, MemSink, MemSource};
+use scfs_cloud::MemCloud;
 use scfs_policy::{RankFacts, RankRule};
 use std::alloc::Global;
 use std::process::Abort;
@@ -37,7 +38,7 @@ pub const REPLAY: Run<'static> = Run {
     by_good: false,
 };
 
-fn one<T: Drop>(alloc: Global, item: Option<T>) -> Result<Vec<T>, Fail> {
+pub fn one<T: Drop>(alloc: Global, item: Option<T>) -> Result<Vec<T>, Fail> {
     let mut items = Vec::new(alloc);
     if let Some(item) = item {
         items.push(item)?;
@@ -67,8 +68,33 @@ fn outcome(alloc: Global, run: Run<'_>) -> Result<(Status, String), Fail> {
     let rank = RankRule::new(|facts: RankFacts| {
         u64::from(if by_good { facts.good } else { facts.bad })
     });
-    let status = scfs(alloc, words.as_slice(), &mut input, &mut out, &rank);
+    let mut old = MemSource::new(Bytes::new(alloc), Vec::new(alloc), Vec::new(alloc));
+    let mut journal = MemSink::new(alloc, Vec::new(alloc));
+    let mut clouds = truthful(alloc, None)?;
+    let status = scfs(
+        alloc,
+        words.as_slice(),
+        &mut input,
+        &mut old,
+        &mut out,
+        &mut journal,
+        clouds.as_mut_slice(),
+        &rank,
+    );
     Ok((status, String::from_utf8_lossy(alloc, out.written())?))
+}
+
+/// Ten truthful clouds, of which one may fail one of its calls: a cloud and the number of its call.
+pub fn truthful(alloc: Global, failing: Option<(usize, u64)>) -> Result<Vec<MemCloud>, Fail> {
+    let mut clouds = Vec::new(alloc);
+    for number in 0..10 {
+        let call = match failing {
+            Some((cloud, call)) if cloud == number => Some(call),
+            _ => None,
+        };
+        clouds.push(MemCloud::new(alloc, one(alloc, call)?))?;
+    }
+    Ok(clouds)
 }
 
 /// Compares a run's status and output with what is wanted.
@@ -155,7 +181,9 @@ fn expect_usage(rt: &(impl Abort + AllocGlobal), words: &[&str]) -> Result<(), F
 #[test]
 fn refuses_other_words(rt: HostRuntime) -> Result<(), Fail> {
     expect_usage(&rt, &["replay", "now"])?;
+    expect_usage(&rt, &["dump", "dump"])?;
     expect_usage(&rt, &["play"])?;
+    expect_usage(&rt, &["dumps"])?;
     expect_usage(&rt, &[])
 }
 
