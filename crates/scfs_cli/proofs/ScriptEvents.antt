@@ -35,11 +35,11 @@ names_agents : (header : Header) (words : List (List ℕ)) (event : Event) → s
 names_agents header [] event is = cc
 names_agents header (word ∷ words) event is =
     by_tests (bytes_eq word (codes "agent") && nat_lt (length header.agents) 8) (bytes_eq word (codes "begin") && nat_le 1 (length header.agents)) is where
-  by_tests : (t u : Bool) → saids.Says event ≡ (if t then said_by (agent_line header words) (λ h. saids.Moves (places.Agents h))
-      else (if u then begin_said header words else saids.Wrong kinds.Order)) → ⊥
-  by_tests true u says = moves_on (agent_line header words) places.Agents event says
-  by_tests false true says = begins header words event says
-  by_tests false false says = cc
+      by_tests : (t u : Bool) → saids.Says event ≡ (if t then said_by (agent_line header words) (λ h. saids.Moves (places.Agents h))
+          else (if u then begin_said header words else saids.Wrong kinds.Order)) → ⊥
+      by_tests true u says = moves_on (agent_line header words) places.Agents event says
+      by_tests false true says = begins header words event says
+      by_tests false false says = cc
 
 -- and those behind it none that a script may not have
 line_of_script : (place : Place) (line : List ℕ) (event : Event) → saids.Says event ≡ said_of true place line → IsScriptEvent event

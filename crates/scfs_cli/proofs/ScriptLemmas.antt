@@ -150,20 +150,20 @@ module _ (first now : SourceView) (intake : Intake) (header : Header) (done : Li
     pub with_next : Tells now.ends next.ends now.faults next.faults filleds.Open → is_built event ≡ true → ReadOn intake.reader more
         → (longer : ScriptSoFar first next new header (done ++ event ∷ [])) × ReachesOn done s.taken longer.taken
     with_next tells is on = let leaves = draws.leaves (λ none. cc) in (
-        record {
-          taken = s.taken ++ more;
-          takes = takes_then first.left now.left next.left s.taken more s.takes draws.takes;
-          room = omega (arith, s.room, leaves, length-append s.taken more);
-          says = says_event;
-          place = subst (λ (h : Header). IsAtEvents new.reader h) (same_header intake.reader draws.next.0 header draws.next.1 s.place) draws.next.2;
-          lines = omega (arith, draws.next.4, s.lines, length-append done (event ∷ []));
-          header_built = s.header_built;
-          built = built_then done event s.built is;
-          later_ends = omega (arith, s.later_ends, tells.later_ends);
-          later_faults = omega (arith, s.later_faults, tells.later_faults);
-        },
-        reaches_on more on,
-      )
+      record {
+        taken = s.taken ++ more;
+        takes = takes_then first.left now.left next.left s.taken more s.takes draws.takes;
+        room = omega (arith, s.room, leaves, length-append s.taken more);
+        says = says_event;
+        place = subst (λ (h : Header). IsAtEvents new.reader h) (same_header intake.reader draws.next.0 header draws.next.1 s.place) draws.next.2;
+        lines = omega (arith, draws.next.4, s.lines, length-append done (event ∷ []));
+        header_built = s.header_built;
+        built = built_then done event s.built is;
+        later_ends = omega (arith, s.later_ends, tells.later_ends);
+        later_faults = omega (arith, s.later_faults, tells.later_faults);
+      },
+      reaches_on more on,
+    )
 
     -- a drive can be given it
     pub can_be_given : is_built event ≡ true → CanBeGiven header event

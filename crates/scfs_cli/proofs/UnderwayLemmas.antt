@@ -262,10 +262,13 @@ module _ (allows : RankFacts → ℕ → Type 0) (header : Header) (past : Histo
         let events : (script_of taken).events ≡ b.done = ap (λ (p : Playing). p.events) ends.1 in (
           ap (λ (p : Playing). p.header) ends.1,
           subst (λ (l : List Event). IsDriven (under header) l b.new past) (sym events) driven_done,
-          (sym (ap (λ (p : Playing). p.finish) ends.1), record {
-            counts = ends.0 ∙ counts;
-            whole = subst (λ (l : List Event). IsWhole (under header) l b.new past) (sym events) whole_done;
-          }),
+          (
+            sym (ap (λ (p : Playing). p.finish) ends.1),
+            record {
+              counts = ends.0 ∙ counts;
+              whole = subst (λ (l : List Event). IsWhole (under header) l b.new past) (sym events) whole_done;
+            },
+          ),
           b.wrote,
           b.asked,
         )

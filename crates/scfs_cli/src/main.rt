@@ -23,6 +23,10 @@ mod play;
 #[cfg(test)]
 mod rows;
 mod run;
+#[cfg(test)]
+mod scripted;
+#[cfg(test)]
+mod stopped;
 mod stopping;
 mod streams;
 #[cfg(test)]

@@ -1,10 +1,7 @@
 //! Lines and headers that are not allowed, each with its kind and its line, and the limits of a text.
 
-use crate::call::scfs;
 use crate::closing::Status;
-use crate::tests::HEADER;
-use scfs_base::{Bytes, MemSink, MemSource};
-use scfs_policy::{RankFacts, RankRule};
+use crate::tests::{HEADER, REPLAY, Run, outcome};
 use std::alloc::Global;
 use std::process::Abort;
 use std::test::Fail;
@@ -175,14 +172,14 @@ const AGENTS: [(&str, u64, &str); 10] = [
 
 /// The status and the whole output of a run over this text.
 fn replayed(alloc: Global, text: &str) -> Result<(Status, String), Fail> {
-    let mut words = Vec::new(alloc);
-    words.push(String::from_str(alloc, "replay")?)?;
-    let bytes = Bytes::from_slice(alloc, text.as_bytes())?;
-    let mut input = MemSource::new(bytes, Vec::new(alloc), Vec::new(alloc));
-    let mut out = MemSink::new(alloc, Vec::new(alloc));
-    let rank = RankRule::new(|facts: RankFacts| u64::from(facts.bad));
-    let status = scfs(alloc, words.as_slice(), &mut input, &mut out, &rank);
-    Ok((status, String::from_utf8_lossy(alloc, out.written())?))
+    let input = [text];
+    outcome(
+        alloc,
+        Run {
+            input: &input,
+            ..REPLAY
+        },
+    )
 }
 
 /// A run over this text stops at this line with this kind.

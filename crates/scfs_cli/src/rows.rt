@@ -28,7 +28,7 @@ pub const BEGIN: &str = "\
     call 0 create /a\nspace 0\ntold 0\ncall 0 open /a w\nspace 0\ntold 0\ncall 0 write 1 0 6869\n\
     call 0 close 1\n";
 
-const BEGUN: &str = "\
+pub const BEGUN: &str = "\
     2 changed 0.0.1\n3 ok 0 create 1\n5 locked 0.0.2 1 100\n6 saw 0.0.2 1 0\n6 opened 0 1 0 empty 0\n\
     7 ok 0 write 1 2\n\
     8 put 0.0.3 0 u/0000000000000001/0000 170 3b7e3c6bd73d59def4d4a66d158da796b9b708e516d1c4f76680ab1a743a1fb3\n\

@@ -47,11 +47,7 @@ fn read_header<I: Source>(intake: &mut Intake, input: &mut I) -> Result<Header, 
 }
 
 /// The script's next event; with `count` events in the run so far.
-fn next_event<I: Source>(
-    intake: &mut Intake,
-    input: &mut I,
-    count: u64,
-) -> Result<Event, RunEnd>
+fn next_event<I: Source>(intake: &mut Intake, input: &mut I, count: u64) -> Result<Event, RunEnd>
     requires begun { (header : Header) × IsAtEvents intake.old.reader header }
     ensures gives { (first : SourceView) (header : Header) (done : List Event) →
         (so_far : ScriptSoFar first (source (I.left input.old) (I.ends input.old) (I.faults input.old)) intake.old header done) →

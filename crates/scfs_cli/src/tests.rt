@@ -47,7 +47,7 @@ pub fn one<T: Drop>(alloc: Global, item: Option<T>) -> Result<Vec<T>, Fail> {
 }
 
 /// The status and the whole output of a run.
-fn outcome(alloc: Global, run: Run<'_>) -> Result<(Status, String), Fail> {
+pub fn outcome(alloc: Global, run: Run<'_>) -> Result<(Status, String), Fail> {
     let mut words = Vec::new(alloc);
     for word in run.words {
         words.push(String::from_str(alloc, word)?)?;
