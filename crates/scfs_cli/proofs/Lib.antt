@@ -10,5 +10,6 @@ pub mod LeavingLemmas
 pub mod PaceLemmas
 pub mod PlayedLemmas
 pub mod ReplayLemmas
+pub mod RisingLemmas
 pub mod RunLemmas
 pub mod TurnLemmas
