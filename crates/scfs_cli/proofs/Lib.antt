@@ -12,6 +12,7 @@ pub mod LiveLemmas
 pub mod PaceLemmas
 pub mod PlayedLemmas
 pub mod ReplayLemmas
+pub mod RisingLemmas
 pub mod RunClosing
 pub mod RunLemmas
 pub mod ScriptEvents
