@@ -1,5 +1,5 @@
 -- What drives write and what they ask, one after another.
-use Rattle.std.proofs.Common.{◌≡◌, ◌≤◌, ◌<◌, ◌≢◌, ◌⊎◌, inl, inr, ⊎_elim, ℕ, List, [], ◌∷◌, ◌++◌, Option, Some, None, refl, ap, ◌∙◌, sym, subst, append_assoc, append-nil, arith, length, map}
+use Rattle.std.proofs.Common.{◌≡◌, ◌≤◌, ◌⊎◌, inl, inr, ⊎_elim, ℕ, List, [], ◌∷◌, ◌++◌, Option, Some, None, ap, ◌∙◌, sym, subst, append_assoc, append-nil, arith, length, map}
 use Rattle.std.specs.Prelude.{slice_get}
 use Rattle.std.proofs.lemmas.List.{map-append}
 use Rattle.std.proofs.lemmas.Option.{slice_get_within, slice_get_cases}
@@ -9,7 +9,7 @@ use Rattle.scfs_schedule.specs.declared.types.Which.TheVariants as whichs
 use Rattle.scfs_net.specs.Queues.{cloud_at}
 use Rattle.scfs_model.specs.Clouds.{net}
 use Rattle.scfs_model.specs.Format.{Setup}
-use Rattle.scfs_model.specs.History.{Entry, History}
+use Rattle.scfs_model.specs.History.{History}
 use Rattle.scfs_model.specs.UnitFormat.{under}
 use Rattle.scfs_cloud.specs.declared.cloud.Exchange.{Exchange}
 use Rattle.scfs_live.specs.Asked.{AreAsked, AreAskedMore, InStep, IsAsked, IsAskedMore, IsOneMore, Logged, OneAhead, RecordsFail, Told, as_recorded, exchange_at, exchanges}

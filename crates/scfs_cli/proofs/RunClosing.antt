@@ -17,7 +17,7 @@ use Rattle.scfs_cli.specs.declared.closing.Status.{Status}
 use Rattle.scfs_cli.specs.declared.closing.Status.TheVariants as statuses
 use Rattle.scfs_cli.specs.declared.stopping.RunEnd.{RunEnd}
 use Rattle.scfs_cli.specs.declared.stopping.RunEnd.TheVariants as runs
-use Rattle.scfs_cli.specs.Closing.{closing_of, closing_status, status_of}
+use Rattle.scfs_cli.specs.Closing.{closing_of, closing_status}
 use Rattle.scfs_cli.specs.Headline.{Closes}
 use Rattle.scfs_cli.specs.Outer.{SinkView, SourceView}
 use Rattle.scfs_cli.specs.Running.{ClosesBy, ClosesRun, Runs, RunsOn, StopsReopening, closing_of_run, writing_failed}

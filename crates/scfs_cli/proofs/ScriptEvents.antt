@@ -1,5 +1,5 @@
 -- The events that a script says are those of a script.
-use Rattle.std.proofs.Common.{◌≡◌, ℕ, ◌+◌, List, [], ◌∷◌, ◌++◌, refl, ap, sym, subst, Option, Some, length, take, Bool, true, false, if◌then◌else◌}
+use Rattle.std.proofs.Common.{◌≡◌, ℕ, ◌+◌, List, [], ◌∷◌, ◌++◌, refl, subst, Option, length, take, Bool, true, false, if◌then◌else◌}
 use Rattle.std.specs.Prelude.{nat_lt, nat_le, codes, ◌&&◌, Result, Ok, Err}
 use Rattle.std.specs.Str.{bytes_eq}
 use Rattle.scfs_base.specs.Limits.{input_limit}

@@ -1,27 +1,25 @@
 -- What is read of a script, and what is driven of it.
-use Rattle.std.proofs.Common.{◌≡◌, ◌≤◌, ℕ, ◌+◌, suc, List, [], ◌∷◌, ◌++◌, refl, ap, ◌∙◌, sym, subst, ⊎_elim, Option, Some, None, length, arith, Bool, true, false, if◌then◌else◌, inl, inr, append_assoc, append-nil, length-append}
-use Rattle.std.specs.Prelude.{IfSome}
+use Rattle.std.proofs.Common.{◌≡◌, ◌≤◌, ℕ, ◌+◌, suc, List, [], ◌∷◌, ◌++◌, refl, ap, ◌∙◌, sym, subst, ⊎_elim, Some, length, arith, Bool, true, false, if◌then◌else◌, inl, inr, append_assoc, append-nil, length-append}
 use Rattle.scfs_base.specs.Limits.{input_limit}
 use Rattle.scfs_base.specs.Outside.{Takes}
-use Rattle.scfs_schedule.specs.Grammar.{IsEvent, IsScriptEvent}
+use Rattle.scfs_schedule.specs.Grammar.{IsEvent}
 use Rattle.scfs_schedule.specs.Reading.{IsAtEvents, Read, Reading, gives, read, stopped, unfinished, unread, with_event, with_header}
 use Rattle.scfs_schedule.specs.declared.types.Ending.{Ending}
 use Rattle.scfs_schedule.specs.declared.types.Event.{Event}
 use Rattle.scfs_schedule.specs.declared.types.Header.{Header}
-use Rattle.scfs_world.specs.Built.{is_built, is_built_header}
+use Rattle.scfs_world.specs.Built.{is_built}
 use Rattle.scfs_live.specs.Able.{CanBeGiven}
 use Rattle.scfs_cli.specs.declared.closing.Filled.{Filled}
 use Rattle.scfs_cli.specs.declared.closing.Filled.TheVariants as filleds
-use Rattle.scfs_cli.specs.declared.closing.Finish.{Finish}
 use Rattle.scfs_cli.specs.declared.closing.Finish.TheVariants as finishes
 use Rattle.scfs_cli.specs.declared.intake.Given.{Given}
 use Rattle.scfs_cli.specs.declared.intake.Given.TheVariants as givens
 use Rattle.scfs_cli.specs.declared.intake.Intake.{Intake}
-use Rattle.scfs_cli.specs.Giving.{Draws, GivesNext, InPieces, IsFresh, ReadOn, Tells, filled_by}
+use Rattle.scfs_cli.specs.Giving.{Draws, InPieces, IsFresh, ReadOn, Tells, filled_by}
 use Rattle.scfs_cli.specs.Outer.{SourceView}
 use Rattle.scfs_cli.specs.Playing.{Playing, before_event, finished, header_lines, under_header}
 use Rattle.scfs_cli.specs.Running.{KeepsToHeader, ReadsScript}
-use Rattle.scfs_cli.specs.Scripting.{AreBuilt, IsSplit, driven, events_driven, script_of}
+use Rattle.scfs_cli.specs.Scripting.{AreBuilt, driven, events_driven, script_of}
 use Rattle.scfs_cli.specs.Underway.{ReachesOn, Reached, ScriptSoFar, with_events}
 use Rattle.scfs_cli.proofs.EdgeLemmas.{takes_nothing, takes_then}
 use Rattle.scfs_cli.proofs.ScriptEvents.{of_script}

@@ -1,5 +1,5 @@
 -- A run of a script underway, and how it ends.
-use Rattle.std.proofs.Common.{◌≡◌, ◌≤◌, ◌<◌, ◌^◌, ◌+◌, ◌-◌, ◌⊎◌, inl, inr, ⊎_elim, ℕ, List, [], ◌∷◌, ◌++◌, Option, Some, None, Ok, Err, refl, ap, ◌∙◌, sym, subst, append_assoc, append-nil, arith, length, length-append}
+use Rattle.std.proofs.Common.{◌≡◌, ◌≤◌, ◌<◌, ◌^◌, ◌+◌, ◌-◌, ◌⊎◌, inl, inr, ⊎_elim, ℕ, List, [], ◌∷◌, ◌++◌, Option, Some, None, Ok, refl, ap, ◌∙◌, sym, subst, append_assoc, append-nil, arith, length, length-append}
 use Rattle.scfs_base.specs.Limits.{events_limit}
 use Rattle.scfs_base.specs.Outside.{Puts, Rose}
 use Rattle.scfs_policy.specs.declared.rank.RankFacts.{RankFacts}
@@ -39,9 +39,9 @@ use Rattle.scfs_cli.specs.declared.stopping.RunEnd.TheVariants as runs
 use Rattle.scfs_cli.specs.Outer.{SinkView, SourceView}
 use Rattle.scfs_cli.specs.Playing.{Playing}
 use Rattle.scfs_cli.specs.Plays.{Known}
-use Rattle.scfs_cli.specs.Running.{KeepsToHeader, KeepsUp, ReadsScript, RunAsks, RunIsDue, RunWrites, RunsOn, SomeNext}
+use Rattle.scfs_cli.specs.Running.{KeepsToHeader, KeepsUp, ReadsScript, RunAsks, RunIsDue, RunWrites, RunsOn}
 use Rattle.scfs_cli.specs.Scripting.{script_of}
-use Rattle.scfs_cli.specs.Underway.{EndsScript, GivesEvent, ReachesOn, Reached, ScriptSoFar}
+use Rattle.scfs_cli.specs.Underway.{EndsScript, GivesEvent, ReachesOn, ScriptSoFar}
 use Rattle.scfs_cli.proofs.ComingLemmas.{IsComing, coming_first, coming_given, coming_more, coming_next, coming_whole, some_done}
 use Rattle.scfs_cli.proofs.LiveLemmas.{are_asked_then, end_asks_then, end_writes_then, wrote_then}
 use Rattle.scfs_cli.proofs.ScriptLemmas.{leads_further}

@@ -1,4 +1,4 @@
-use Rattle.std.proofs.Common.{◌≡◌, ◌≤◌, ◌+◌, ◌++◌, List, ℕ, Option, Err, refl, sym, ap, ◌∙◌, subst, inl, inr, arith, length, map}
+use Rattle.std.proofs.Common.{◌≤◌, ◌+◌, ◌++◌, ℕ, Option, Err, refl, sym, ap, ◌∙◌, subst, inl, inr, arith, length}
 use Rattle.std.proofs.lemmas.List.{length-map}
 use Rattle.std.specs.Prelude.{IfSome}
 use Rattle.scfs_base.specs.Limits.{events_limit}
@@ -8,14 +8,13 @@ use Rattle.scfs_schedule.specs.declared.types.Header.{Header}
 use Rattle.scfs_schedule.specs.declared.types.Which.TheVariants as whichs
 use Rattle.scfs_model.specs.UnitFormat.{under}
 use Rattle.scfs_live.specs.Able.{CanBeGiven}
-use Rattle.scfs_live.specs.Asked.{Told, told}
+use Rattle.scfs_live.specs.Asked.{told}
 use Rattle.scfs_live.specs.Driving.{begins_with}
 use Rattle.scfs_live.specs.Reopened.{old_lines}
 use Rattle.scfs_live.specs.Reopening.{unwalked}
 use Rattle.scfs_live.specs.declared.ending.LiveEnd.TheVariants as lives
 use Rattle.scfs_cli.specs.declared.stopping.RunEnd.{RunEnd}
 use Rattle.scfs_cli.specs.declared.stopping.RunEnd.TheVariants as runs
-use Rattle.scfs_cli.specs.Outer.{SinkView, SourceView, sink, source}
 use Rattle.scfs_cli.specs.Scripting.{script_of}
 use Rattle.scfs_cli.specs.Underway.{EndsScript}
 use Rattle.scfs_cli.proofs.UnderwayLemmas.{begins, counts_on, drove_on, drove_to, ended, fewer, given_next, known_of, one_if_none, reads_open, rose_since, runs_on, same_why, states, walks_few}

@@ -1,4 +1,4 @@
-use Rattle.std.proofs.Common.{◌≤◌, ◌-◌, ◌+◌, List, length, map, Option, Some, None, ℕ}
+use Rattle.std.proofs.Common.{◌≤◌, ◌-◌, ◌+◌, List, length, map, ℕ}
 use Rattle.std.specs.Prelude.{IfSome}
 use Rattle.scfs_base.specs.Limits.{events_limit}
 use Rattle.scfs_base.specs.Outside.{Puts}
