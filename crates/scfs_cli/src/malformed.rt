@@ -172,14 +172,12 @@ const AGENTS: [(&str, u64, &str); 10] = [
 
 /// The status and the whole output of a run over this text.
 fn replayed(alloc: Global, text: &str) -> Result<(Status, String), Fail> {
-    let input = [text];
-    outcome(
-        alloc,
-        Run {
-            input: &input,
-            ..REPLAY
-        },
-    )
+    let run = Run {
+        words: &["replay"],
+        input: &[text],
+        ..REPLAY
+    };
+    outcome(alloc, run)
 }
 
 /// A run over this text stops at this line with this kind.

@@ -2,7 +2,7 @@ use crate::call::scfs;
 use crate::closing::Status;
 use crate::rows::BEGUN;
 use crate::tests::{HEADER, REPLAY, Run, expect, one, truthful};
-use scfs_base::{Bytes, MemSink, MemSource};
+use scfs_base::{Bytes, MemSink, MemSource, Memory};
 use scfs_cloud::{Cloud, SaidCloud};
 use scfs_policy::{RankFacts, RankRule};
 use std::alloc::Global;
@@ -87,6 +87,9 @@ fn run_over<C: Cloud>(
     let mut out = MemSink::new(alloc, one(alloc, failing.of_out())?);
     let mut journal = MemSink::new(alloc, one(alloc, failing.of_journal())?);
     let rank = RankRule::new(|facts: RankFacts| u64::from(facts.bad));
+    if clouds.len() < 10 {
+        return Err(Fail::from(Memory));
+    }
     let status = scfs(
         alloc,
         words.as_slice(),
@@ -199,6 +202,7 @@ fn a_journal_is_replayed(rt: HostRuntime) -> Result<(), Fail> {
     let ran = run_script(alloc, text.as_slice(), b"", Failing::Cloud(2, 1))?;
     let schedule = schedule_in(alloc, ran.journal.written())?;
     let replay = Run {
+        words: &["replay"],
         input: &[schedule.as_str()],
         ..REPLAY
     };

@@ -31,6 +31,7 @@ fn expect_going_on(rt: &(impl Abort + AllocGlobal), journal: &[u8]) -> Result<()
     assert_eq!(rt; again.journal.written(), b"".as_slice());
     let schedule = schedule_in(alloc, whole.as_slice())?;
     let replay = Run {
+        words: &["replay"],
         input: &[schedule.as_str()],
         ..REPLAY
     };

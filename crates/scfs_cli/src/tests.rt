@@ -1,7 +1,7 @@
 use crate::call::scfs;
 use crate::closing::Status;
 use crate::malformed::repeated;
-use scfs_base::{Bytes, MemSink, MemSource};
+use scfs_base::{Bytes, MemSink, MemSource, Memory};
 use scfs_cloud::MemCloud;
 use scfs_policy::{RankFacts, RankRule};
 use std::alloc::Global;
@@ -71,6 +71,9 @@ pub fn outcome(alloc: Global, run: Run<'_>) -> Result<(Status, String), Fail> {
     let mut old = MemSource::new(Bytes::new(alloc), Vec::new(alloc), Vec::new(alloc));
     let mut journal = MemSink::new(alloc, Vec::new(alloc));
     let mut clouds = truthful(alloc, None)?;
+    if clouds.len() < 10 {
+        return Err(Fail::from(Memory));
+    }
     let status = scfs(
         alloc,
         words.as_slice(),
