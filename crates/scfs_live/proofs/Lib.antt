@@ -4,4 +4,5 @@ pub mod DrivenLemmas
 pub mod StoreLemmas
 pub mod AskedLemmas
 pub mod AllAsked
+pub mod HearingLemmas
 pub mod RowDriven

@@ -1,11 +1,11 @@
 //! Running a script over real clouds: what comes next, and what is written to the journal before it is shown.
 #![tactic(auto)]
 
-mod drive;
+mod driving;
 mod driver;
 mod ending;
 mod hearing;
-mod record;
+mod recording;
 #[cfg(test)]
 mod stub;
 #[cfg(test)]
@@ -13,7 +13,7 @@ mod tests;
 mod waits;
 mod writing;
 
-pub use drive::drive;
+pub use driving::drive;
 pub use driver::{Driver, Next, Work};
 pub use ending::LiveEnd;
 pub use writing::write_all;

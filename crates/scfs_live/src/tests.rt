@@ -1,4 +1,4 @@
-use crate::drive::drive;
+use crate::driving::drive;
 use crate::ending::LiveEnd;
 use crate::writing::write_all;
 use scfs_base::{Bytes, MemSink, Sequence};

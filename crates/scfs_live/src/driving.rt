@@ -18,7 +18,7 @@ ghost use Rattle.scfs_live.specs.Waits.{waits_in};
 use crate::driver::{Driver, Next};
 use crate::ending::LiveEnd;
 use crate::hearing::heard;
-use crate::record::{piece_text, shown_text, write_texts};
+use crate::recording::{piece_text, shown_text, write_texts};
 use scfs_base::{Memory, Sink};
 use scfs_cloud::Cloud;
 use scfs_policy::{RankFacts, RankRule};
@@ -116,11 +116,11 @@ fn begin<O: Sink, J: Sink, R: Fn(RankFacts) -> u64>(
     requires rank { IsRankRule (R.pre rank.now) }
     ensures begun { IfOk result (λ begun. (header : Header) (past : History) (clouds : List Told) → Stands world header past →
         IsPlayed (R.post rank.now) header past →
-        Going (R.post rank.now) header (option_copied event) past begun.0 begun.1 (J.written journal.old) (J.written journal.new)
+        Going (R.post rank.now) header (option_copied event.entry) past begun.0 begun.1 (J.written journal.old) (J.written journal.new)
         (O.written out.old) (O.written out.new) clouds clouds) }
     ensures ended { IfErr result (λ end. (header : Header) (past : History) (clouds : List Told) → Stands world header past →
         IsPlayed (R.post rank.now) header past →
-        Ends (R.post rank.now) end header (option_copied event) past (J.written journal.old) (J.written journal.new)
+        Ends (R.post rank.now) end header (option_copied event.entry) past (J.written journal.old) (J.written journal.new)
         (O.written out.old) (O.written out.new) clouds clouds) }
     ensures world { IfOk result (λ begun. IsWorld begun.0 × (begun.0.header ≡ world.header) × (begun.0.events ≤ events_limit)) }
     ensures driver { IfOk result (λ begun. Fits world.header begun.1) }
@@ -159,12 +159,12 @@ pub fn drive<C: Cloud, O: Sink, J: Sink, R: Fn(RankFacts) -> u64>(
     requires rank { IsRankRule (R.pre rank.now) }
     ensures drives { IfOk result (λ after. (header : Header) (past : History) → Stands world header past →
         IsPlayed (R.post rank.now) header past →
-        Drives (R.post rank.now) header (option_copied event) past after (J.written journal.old) (J.written journal.new)
+        Drives (R.post rank.now) header (option_copied event.entry) past after (J.written journal.old) (J.written journal.new)
         (O.written out.old) (O.written out.new) (map (λ c. told (C.faults c) (C.log c) (C.store c)) clouds.old)
         (map (λ c. told (C.faults c) (C.log c) (C.store c)) clouds.new)) }
     ensures ends { IfErr result (λ end. (header : Header) (past : History) → Stands world header past →
         IsPlayed (R.post rank.now) header past →
-        Ends (R.post rank.now) end header (option_copied event) past (J.written journal.old) (J.written journal.new)
+        Ends (R.post rank.now) end header (option_copied event.entry) past (J.written journal.old) (J.written journal.new)
         (O.written out.old) (O.written out.new) (map (λ c. told (C.faults c) (C.log c) (C.store c)) clouds.old)
         (map (λ c. told (C.faults c) (C.log c) (C.store c)) clouds.new)) }
     ensures world { IfOk result (λ after. IsWorld after × (after.header ≡ world.header) × (after.events ≤ events_limit)) }
