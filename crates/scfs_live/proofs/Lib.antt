@@ -5,4 +5,5 @@ pub mod StoreLemmas
 pub mod AskedLemmas
 pub mod AllAsked
 pub mod HearingLemmas
+pub mod TurnLemmas
 pub mod RowDriven

@@ -18,7 +18,7 @@ ghost use Rattle.scfs_live.specs.Waits.{waits_in};
 use crate::driver::{Driver, Next};
 use crate::ending::LiveEnd;
 use crate::hearing::heard;
-use crate::recording::{piece_text, shown_text, write_texts};
+use crate::recording::write_event;
 use scfs_base::{Memory, Sink};
 use scfs_cloud::Cloud;
 use scfs_policy::{RankFacts, RankRule};
@@ -29,7 +29,7 @@ use std::alloc::Global;
 /// How many events one run may have.
 const EVENTS_LIMIT: u64 = 1_000_000;
 
-/// Does an event and records it. Both its texts are made before either is written.
+/// Does an event and records it.
 fn turn<O: Sink, J: Sink, R: Fn(RankFacts) -> u64>(
     alloc: Global,
     world: World,
@@ -50,19 +50,12 @@ fn turn<O: Sink, J: Sink, R: Fn(RankFacts) -> u64>(
     ensures causes { HasCauses (J.faults journal.old) (J.faults journal.new) (O.faults out.old) (O.faults out.new) result }
 {
     states_are_whole();
-    let stepped = match world.step(event, rank) {
-        Ok(stepped) => stepped,
+    match world.step(event, rank) {
+        Ok(stepped) => write_event(alloc, stepped, event, out, journal),
         Err(end) => match end.fault {
-            StepFault::TooLarge => return Err(LiveEnd::TooLarge(Which::Objects)),
-            StepFault::Memory => return Err(LiveEnd::Memory),
+            StepFault::TooLarge => Err(LiveEnd::TooLarge(Which::Objects)),
+            StepFault::Memory => Err(LiveEnd::Memory),
         },
-    };
-    let number = stepped.world.events();
-    let piece = piece_text(alloc, number, event, stepped.lines.as_slice())?;
-    let shown = shown_text(alloc, number, stepped.lines.as_slice())?;
-    match write_texts(journal, out, piece.as_slice(), shown.as_slice()) {
-        Ok(()) => Ok(stepped.world),
-        Err(end) => Err(end),
     }
 }
 
