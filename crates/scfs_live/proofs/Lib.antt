@@ -6,4 +6,5 @@ pub mod AskedLemmas
 pub mod AllAsked
 pub mod HearingLemmas
 pub mod TurnLemmas
+pub mod AdvanceLemmas
 pub mod RowDriven
