@@ -7,4 +7,7 @@ pub mod AllAsked
 pub mod HearingLemmas
 pub mod TurnLemmas
 pub mod AdvanceLemmas
+pub mod FitsLemmas
+pub mod WaitsLemmas
+pub mod GoingLemmas
 pub mod RowDriven

@@ -1,4 +1,4 @@
-ghost use Rattle.std.specs.Prelude.{◌≡◌, ◌≤◌, ◌<◌, ◌+◌, ◌*◌, List, Option, Result, IfErr, IfOk, IfSome, length, map, true};
+ghost use Rattle.std.specs.Prelude.{◌≡◌, ◌≤◌, ◌<◌, ◌+◌, ◌*◌, List, Some, None, IfErr, IfOk, IfSome, length, map};
 ghost use Rattle.std.specs.Option.{option_copied};
 ghost use Rattle.scfs_base.specs.Limits.{events_limit};
 ghost use Rattle.scfs_model.specs.History.{History};
@@ -11,7 +11,10 @@ ghost use Rattle.scfs_world.specs.Stepping.{IsShown, IsWorld};
 ghost use Rattle.scfs_live.specs.Asked.{Told, told};
 ghost use Rattle.scfs_live.specs.Drives.{Drives, Ends, Going, StandsForSome};
 ghost use Rattle.scfs_live.specs.Able.{CanBeDone, CanBeGiven, CanBeNext, Fits};
+ghost use Rattle.scfs_live.specs.Driving.{begins_with};
 ghost use Rattle.scfs_live.specs.Recording.{HasCauses};
+ghost use Rattle.scfs_live.specs.declared.ending.LiveEnd.TheVariants as LiveEnd;
+ghost use Rattle.scfs_model.specs.UnitFormat.{under};
 ghost use Rattle.scfs_live.specs.Turning.{Advanced, Turned};
 ghost use Rattle.scfs_live.specs.Waits.{waits_in};
 
@@ -93,6 +96,56 @@ fn advance<C: Cloud, O: Sink, J: Sink, R: Fn(RankFacts) -> u64>(
     }
 }
 
+/// Where no event was given nothing is done first.
+fn begin_settling(alloc: Global, world: World) -> Result<(World, Driver), LiveEnd>
+    requires world { IsWorld world }
+    ensures begun { IfOk result (λ begun. (begun.0 ≡ world) × (begun.1 ≡ begins_with (under world.header) None)) }
+    ensures ended { IfErr result (λ end. end ≡ LiveEnd.Memory) }
+{
+    match Driver::settling(alloc, world.header()) {
+        Ok(driver) => Ok((world, driver)),
+        Err(Memory) => Err(LiveEnd::Memory),
+    }
+}
+
+/// Does the event that was given.
+fn begin_with<O: Sink, J: Sink, R: Fn(RankFacts) -> u64>(
+    alloc: Global,
+    world: World,
+    event: &Event,
+    out: &mut O,
+    journal: &mut J,
+    rank: &RankRule<R>,
+) -> Result<(World, Driver), LiveEnd>
+    requires world { IsWorld world }
+    requires shown { IsShown world }
+    requires event { CanBeGiven world.header event.now }
+    requires room { world.events ≤ events_limit }
+    requires rank { IsRankRule (R.pre rank.now) }
+    ensures begun { IfOk result (λ begun. (header : Header) (past : History) (clouds : List Told) → Stands world header past →
+        IsPlayed (R.post rank.now) header past →
+        Going (R.post rank.now) header (Some event.now) past begun.0 begun.1 (J.written journal.old) (J.written journal.new)
+        (O.written out.old) (O.written out.new) clouds clouds) }
+    ensures ended { IfErr result (λ end. (header : Header) (past : History) (clouds : List Told) → Stands world header past →
+        IsPlayed (R.post rank.now) header past →
+        Ends (R.post rank.now) end header (Some event.now) past (J.written journal.old) (J.written journal.new)
+        (O.written out.old) (O.written out.new) clouds clouds) }
+    ensures world { IfOk result (λ begun. IsWorld begun.0 × (begun.0.header ≡ world.header) × (begun.0.events ≤ events_limit)) }
+    ensures driver { IfOk result (λ begun. Fits world.header begun.1) }
+    ensures causes { HasCauses (J.faults journal.old) (J.faults journal.new) (O.faults out.old) (O.faults out.new) result }
+{
+    if world.events() == EVENTS_LIMIT {
+        return Err(LiveEnd::TooLarge(Which::Events));
+    }
+    match Driver::begun(alloc, world.header(), event) {
+        Ok(driver) => match turn(alloc, world, event, out, journal, rank) {
+            Ok(world) => Ok((world, driver)),
+            Err(end) => Err(end),
+        },
+        Err(Memory) => Err(LiveEnd::Memory),
+    }
+}
+
 /// Does the event that was given, if there is one.
 fn begin<O: Sink, J: Sink, R: Fn(RankFacts) -> u64>(
     alloc: Global,
@@ -119,17 +172,9 @@ fn begin<O: Sink, J: Sink, R: Fn(RankFacts) -> u64>(
     ensures driver { IfOk result (λ begun. Fits world.header begun.1) }
     ensures causes { HasCauses (J.faults journal.old) (J.faults journal.new) (O.faults out.old) (O.faults out.new) result }
 {
-    let Some(event) = event else {
-        let driver = Driver::settling(alloc, world.header())?;
-        return Ok((world, driver));
-    };
-    if world.events() == EVENTS_LIMIT {
-        return Err(LiveEnd::TooLarge(Which::Events));
-    }
-    let driver = Driver::begun(alloc, world.header(), event)?;
-    match turn(alloc, world, event, out, journal, rank) {
-        Ok(world) => Ok((world, driver)),
-        Err(end) => Err(end),
+    match event {
+        None => begin_settling(alloc, world),
+        Some(event) => begin_with(alloc, world, event, out, journal, rank),
     }
 }
 
