@@ -47,7 +47,7 @@ agent_fits : (header : Header) (event : Event) → IsEvent header event → IfSo
 agent_fits header (events.Call a call) fits = fits
 agent_fits header other fits = tt
 
-script_quiet : (event : Event) → IsScriptEvent event → IsQuiet event
+pub script_quiet : (event : Event) → IsScriptEvent event → IsQuiet event
 script_quiet (events.Call a call) script = tt
 script_quiet (events.Turn a) script = tt
 script_quiet (events.Tick n) script = tt

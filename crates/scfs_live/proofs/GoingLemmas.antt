@@ -1,10 +1,12 @@
 -- A drive so far, and one event more.
 use Rattle.std.proofs.Common.{◌≡◌, ℕ, List, [], ◌∷◌, ◌++◌, refl, ap, ◌∙◌, sym, subst, Option, Some, None, Result, Ok, Err, length, append-nil}
+use Rattle.scfs_base.specs.Limits.{events_limit}
 use Rattle.scfs_base.specs.Outside.{Puts}
 use Rattle.scfs_base.specs.declared.cloud.CloudAnswer.{CloudAnswer}
 use Rattle.scfs_base.specs.declared.cloud.CloudAnswer.TheVariants as answers
 use Rattle.scfs_base.specs.declared.outside.Memory.{Memory}
 use Rattle.scfs_policy.specs.declared.rank.RankFacts.{RankFacts}
+use Rattle.scfs_schedule.specs.Grammar.{IsScriptEvent}
 use Rattle.scfs_schedule.specs.declared.types.Event.{Event}
 use Rattle.scfs_schedule.specs.declared.types.Event.TheVariants as events
 use Rattle.scfs_schedule.specs.declared.types.Header.{Header}
@@ -17,19 +19,20 @@ use Rattle.scfs_world.specs.State.{WorldState}
 use Rattle.scfs_live.specs.Asked.{AreAsked, AreAskedMore, Told}
 use Rattle.scfs_live.specs.Driven.{ComesNext, answer_in}
 use Rattle.scfs_live.specs.Drives.{Drove, Ends, Going, SomeNext}
-use Rattle.scfs_live.specs.Driving.{Driver, begins_with, event_of, next_within}
+use Rattle.scfs_live.specs.Driving.{Driver, begins_with, begun, event_of, next_within}
 use Rattle.scfs_live.specs.Hearing.{Heard}
 use Rattle.scfs_live.specs.Journal.{entry_lines, entry_piece, lines_of, pieces_of}
 use Rattle.scfs_live.specs.Recording.{WroteAll}
-use Rattle.scfs_live.specs.Turning.{Advanced, IsHeard, Played, WroteNothing}
+use Rattle.scfs_live.specs.Turning.{Advanced, IsHeard, Played, Turned, WroteNothing}
 use Rattle.scfs_live.specs.Waits.{waits_after}
 use Rattle.scfs_live.specs.declared.driver.Next.{Next}
 use Rattle.scfs_live.specs.declared.driver.Next.TheVariants.{Does, Hears}
 use Rattle.scfs_live.specs.declared.ending.LiveEnd.{LiveEnd}
 use Rattle.scfs_live.specs.declared.ending.LiveEnd.TheVariants as ends
+use Rattle.scfs_live.proofs.AdvanceLemmas.{advanced_by}
 use Rattle.scfs_live.proofs.AllAsked.{are_asked_more, are_asked_no_more, are_asked_none, are_asked_quiet, are_asked_there}
 use Rattle.scfs_live.proofs.EdgeLemmas.{puts_more, puts_nothing, puts_then, then_part}
-use Rattle.scfs_live.proofs.FitsLemmas.{IsQuietNext}
+use Rattle.scfs_live.proofs.FitsLemmas.{IsQuietNext, script_quiet}
 use Rattle.scfs_live.proofs.StoreLemmas.{IsQuiet}
 
 pub wrote_none : (j o : Option (List ℕ)) (past : History) → WroteAll j j o o [] past
@@ -160,3 +163,52 @@ module _ (allows : RankFacts → ℕ → Type 0) (header : Header) (given : Opti
       asked = asked_besides next result heard;
     }
     came_to end advanced = absurd advanced
+
+-- the event that was given comes first
+module _ (allows : RankFacts → ℕ → Type 0) (header : Header) (past : History) (event : Event) (script : IsScriptEvent event)
+    (plays : IsPlayed allows header past) (j j' o o' : Option (List ℕ)) (clouds : List Told) where
+  abbrev before_it : Driver
+  before_it = begins_with (under header) (Some event)
+
+  abbrev behind_it : Driver
+  behind_it = begun (under header) event
+
+  first_advanced : (result : Result WorldState LiveEnd) → Turned allows header past (λ given. given ≡ event) j j' o o' result
+      → Advanced allows header past (Does event) clouds clouds j j' o o' result
+  first_advanced result turned = advanced_by allows header past (Does event) clouds clouds event (record { is = refl; heard = refl }) j j' o o' result turned
+
+  pub first_on : (world : WorldState) (driver : Driver) → driver ≡ behind_it → Turned allows header past (λ given. given ≡ event) j j' o o' (Ok world)
+      → Going allows header (Some event) past world driver j j' o o' clouds clouds
+  first_on world driver same turned =
+      subst (λ (d : Driver). Going allows header (Some event) past world d j j' o o' clouds clouds) (sym same)
+      (went_on allows header (Some event) past [] before_it behind_it (Does event) (drove_none allows header (Some event) past plays) refl
+      (script_quiet event script) j j j' o o o' (wrote_none j o past) clouds clouds clouds (are_asked_none (under header) past clouds) world
+      (first_advanced (Ok world) turned))
+
+  first_came_to : (end : LiveEnd) → Advanced allows header past (Does event) clouds clouds j j' o o' (Err end)
+      → Ends allows end header (Some event) past j j' o o' clouds clouds
+  first_came_to end advanced =
+      came_to allows header (Some event) past [] before_it behind_it (Does event) (drove_none allows header (Some event) past plays) refl
+      (script_quiet event script) j j j' o o o' (wrote_none j o past) clouds clouds clouds (are_asked_none (under header) past clouds) end advanced
+
+  pub first_ended : (end : LiveEnd) → Turned allows header past (λ given. given ≡ event) j j' o o' (Err end)
+      → Ends allows end header (Some event) past j j' o o' clouds clouds
+  first_ended end turned = first_came_to end (first_advanced (Err end) turned)
+
+  pub first_full : length past ≡ events_limit → WroteNothing j j' o o' → Ends allows (ends.TooLarge whiches.Events) header (Some event) past j j' o o' clouds clouds
+  first_full full none = first_came_to (ends.TooLarge whiches.Events) (full, refl, none)
+
+  pub first_wanting : WroteNothing j j' o o' → Ends allows ends.Memory header (Some event) past j j' o o' clouds clouds
+  first_wanting none = first_came_to ends.Memory (Ok answers.Fail, refl, none)
+
+-- where none was given, memory was wanting
+pub none_wanting : (allows : RankFacts → ℕ → Type 0) (header : Header) (past : History) (plays : IsPlayed allows header past) (j o : Option (List ℕ))
+    (clouds : List Told) → Ends allows ends.Memory header None past j j o o clouds clouds
+none_wanting allows header past plays j o clouds = record {
+  new = [];
+  after = begins_with (under header) None;
+  drove = drove_none allows header None past plays;
+  due = tt;
+  wrote = wrote_none j o past;
+  asked = are_asked_no_more (under header) [] past clouds clouds (are_asked_none (under header) past clouds);
+}

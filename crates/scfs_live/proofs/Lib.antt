@@ -10,4 +10,5 @@ pub mod AdvanceLemmas
 pub mod FitsLemmas
 pub mod WaitsLemmas
 pub mod GoingLemmas
+pub mod BeginLemmas
 pub mod RowDriven
