@@ -11,4 +11,5 @@ pub mod FitsLemmas
 pub mod WaitsLemmas
 pub mod GoingLemmas
 pub mod BeginLemmas
+pub mod DriveLemmas
 pub mod RowDriven

@@ -209,9 +209,15 @@ pub fn drive<C: Cloud, O: Sink, J: Sink, R: Fn(RankFacts) -> u64>(
     ensures causes { HasCauses (J.faults journal.old) (J.faults journal.new) (O.faults out.old) (O.faults out.new) result }
 {
     standing_worlds_are_shown();
-    let (mut world, mut driver) = begin(alloc, world, event, out, journal, rank)?;
+    let (mut world, mut driver) = match begin(alloc, world, event, out, journal, rank) {
+        Ok(begun) => begun,
+        Err(end) => return Err(end),
+    };
     'events: loop {
-        let Some(next) = driver.next(&world)? else {
+        let Ok(found) = driver.next(&world) else {
+            return Err(LiveEnd::Memory);
+        };
+        let Some(next) = found else {
             return Ok(world);
         };
         match advance(alloc, world, next, clouds, out, journal, rank) {
