@@ -11,11 +11,7 @@ pub enum LiveEnd {
     Bad(Bad),
     Unbuilt(u64),
     /// The line of the old journal with this number is not the one that the run made; `-` stands for a line that is not there.
-    Differs {
-        line: u64,
-        kept: Bytes,
-        made: Bytes,
-    },
+    Differs { line: u64, kept: Bytes, made: Bytes },
     Memory,
 }
 

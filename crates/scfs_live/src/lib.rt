@@ -1,10 +1,11 @@
 //! Running a script over real clouds: what comes next, and what is written to the journal before it is shown.
 #![tactic(auto)]
 
-mod driving;
 mod driver;
+mod driving;
 mod ending;
 mod hearing;
+mod laws;
 mod recording;
 #[cfg(test)]
 mod stub;
@@ -13,7 +14,8 @@ mod tests;
 mod waits;
 mod writing;
 
-pub use driving::drive;
 pub use driver::{Driver, Next, Work};
+pub use driving::drive;
 pub use ending::LiveEnd;
+pub use laws::drives_make_runs;
 pub use writing::write_all;

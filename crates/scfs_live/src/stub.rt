@@ -11,13 +11,19 @@ pub struct MemCloud {
 
 impl MemCloud {
     pub fn new(_alloc: Global, fails: Vec<u64>) -> MemCloud {
-        MemCloud { fails, calls: 0, faults: 0 }
+        MemCloud {
+            fails,
+            calls: 0,
+            faults: 0,
+        }
     }
 }
 
 impl Cloud for MemCloud {
     ghost faults = { λ c. c.faults };
+
     ghost log = { λ _. None };
+
     ghost store = { λ _. None };
 
     fn put(&mut self, _name: &[u8], _body: &[u8]) -> Result<(), CloudFault> {
@@ -28,12 +34,15 @@ impl Cloud for MemCloud {
         }
         Ok(())
     }
+
     fn get(&mut self, _name: &[u8], _limit: u32) -> Result<Option<Bytes>, CloudFault> {
         Ok(None)
     }
+
     fn delete(&mut self, _name: &[u8]) -> Result<(), CloudFault> {
         Ok(())
     }
+
     fn list(&mut self, _prefix: &[u8]) -> Result<NameList, CloudFault> {
         Err(CloudFault::Failed)
     }

@@ -28,7 +28,7 @@ returns-in-Ok-turn-clause-begun g c = λ header past clouds stands played.
 
 pub returns-in-Ok-turn-clause-driver : goal.returns-in-Ok-turn-clause-driver
 returns-in-Ok-turn-clause-driver g c =
-    subst (λ (d : Driver). Fits c.args.world.header d) 
+    subst (λ (d : Driver). Fits c.args.world.header d)
     (sym (c.in-Ok.ensures ∙ ap (λ (h : Header). begun (under h) c.args.event.now) c.header.ensures))
     (begun_fits c.args.world.header c.args.event.now c.requires.event.done.fits)
 
