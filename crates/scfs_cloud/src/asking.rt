@@ -43,7 +43,8 @@ pub fn ask_cloud<C: Cloud>(
     cloud: &mut C,
     request: &CloudRequest,
 ) -> Result<CloudAnswer, Memory>
-    ensures { Asks request.now (C.log cloud.old) (C.log cloud.new) (C.store cloud.old) (C.store cloud.new) (C.faults cloud.old) (C.faults cloud.new) result }
+    ensures { Asks request.now (C.log cloud.old) (C.log cloud.new) (C.store cloud.old) (C.store cloud.new)
+        (C.faults cloud.old) (C.faults cloud.new) result }
 {
     match call(cloud, request) {
         Ok(answer) => cut_answer(alloc, request, answer),

@@ -1,9 +1,11 @@
-ghost use Rattle.std.specs.Prelude.{◌≡◌, ◌≤◌, ◌∷◌, ◌++◌, IfOk, IsTrue, None, string_bytes};
+ghost use Rattle.std.specs.Prelude.{◌≡◌, ◌≤◌, ◌↔◌, ◌∷◌, ◌++◌, All, IfOk, IsTrue, None, OnOk, string_bytes};
+ghost use Rattle.std.specs.IoError.{error_kind};
+ghost use Rattle.std.specs.declared.io.ErrorKind.TheVariants as ErrorKind;
 ghost use Rattle.scfs_base.specs.declared.cloud.CloudRequest.TheVariants as CloudRequest;
 ghost use Rattle.scfs_base.specs.declared.cloud.CloudAnswer.TheVariants as CloudAnswer;
 ghost use Rattle.scfs_cloud.specs.declared.cloud.CloudFault.TheVariants as CloudFault;
 ghost use Rattle.scfs_cloud.specs.Asking.{IsCounted, IsLogged, IsStored, said, acked, found};
-ghost use Rattle.scfs_cloud.specs.Folder.{file_name, is_object_name};
+ghost use Rattle.scfs_cloud.specs.Folder.{file_name, is_object_name, IsListed};
 ghost use Rattle.scfs_cloud.specs.InMemory.{CountsFault};
 ghost use Rattle.scfs_base.specs.InMemory.{one_more};
 
@@ -79,7 +81,9 @@ fn write_object<R: Files>(
     folder: &str,
     name: &[u8],
     body: &[u8],
-) -> io::Result<()> {
+) -> io::Result<()>
+    ensures { OnOk result (IsTrue (is_object_name name.now)) }
+{
     let path = path_of(alloc, folder, name)?;
     make_folder(files, folder)?;
     let mut part = String::from_str(alloc, folder)?;
@@ -89,7 +93,9 @@ fn write_object<R: Files>(
 }
 
 /// Removes an object, if it is there.
-fn remove_object<R: Files>(alloc: Global, files: &R, folder: &str, name: &[u8]) -> io::Result<()> {
+fn remove_object<R: Files>(alloc: Global, files: &R, folder: &str, name: &[u8]) -> io::Result<()>
+    ensures { OnOk result (IsTrue (is_object_name name.now)) }
+{
     let path = path_of(alloc, folder, name)?;
     match fs::remove_file(files, path.as_str()) {
         Err(error) if error.kind() != io::ErrorKind::NotFound => Err(error),
@@ -104,7 +110,9 @@ fn read_object<R: Files>(
     folder: &str,
     name: &[u8],
     limit: u32,
-) -> io::Result<Option<Bytes>> {
+) -> io::Result<Option<Bytes>>
+    ensures { OnOk result (IsTrue (is_object_name name.now)) }
+{
     let path = path_of(alloc, folder, name)?;
     let file = match OpenOptions::new().read(true).open(files, path.as_str()) {
         Ok(file) => file,
@@ -117,12 +125,9 @@ fn read_object<R: Files>(
 }
 
 /// Puts the object that a file is behind the names, if it begins with the prefix.
-fn push_object(
-    alloc: Global,
-    file: &str,
-    prefix: &[u8],
-    names: &mut NameList,
-) -> Result<(), Memory> {
+fn push_object(alloc: Global, file: &str, prefix: &[u8], names: &mut NameList) -> Result<(), Memory>
+    ensures { OnOk result (All (IsListed prefix.now) names.old → All (IsListed prefix.now) names.new) }
+{
     match object_of(alloc, file)? {
         Some(name) if name.as_slice().starts_with(prefix) => names.push(name),
         _ => Ok(()),
@@ -135,7 +140,9 @@ fn list_objects<R: Files + AllocGlobal + Clone + Drop>(
     files: &R,
     folder: &str,
     prefix: &[u8],
-) -> Result<NameList, CloudFault> {
+) -> Result<NameList, CloudFault>
+    ensures { IfOk result (λ names. All (IsListed prefix.now) names) }
+{
     let mut names = NameList::new(alloc);
     let entries = match fs::read_dir(files, folder) {
         Ok(entries) => entries,
@@ -152,7 +159,9 @@ fn list_objects<R: Files + AllocGlobal + Clone + Drop>(
 }
 
 /// Which fault an error is: want of memory, or a failure.
-fn fault_of(error: &io::Error) -> CloudFault {
+fn fault_of(error: &io::Error) -> CloudFault
+    ensures { (result ≡ CloudFault.Memory) ↔ (error_kind error.now ≡ ErrorKind.OutOfMemory) }
+{
     if error.kind() == io::ErrorKind::OutOfMemory {
         CloudFault::Memory
     } else {
@@ -195,6 +204,7 @@ impl<'a, R: Files + AllocGlobal + Clone + Drop> Cloud for DirCloud<'a, R> {
     ghost store = { λ _. None };
 
     fn put(&mut self, name: &[u8], body: &[u8]) -> Result<(), CloudFault>
+        ensures named { OnOk result (IsTrue (is_object_name name.now)) }
         ensures faults { CountsFault self.old self.new (said acked result) }
         ensures counted { IsCounted self.old self.new (said acked result) }
         ensures logged { IsLogged None None (CloudRequest.Put name.now body.now) (said acked result) }
@@ -207,6 +217,7 @@ impl<'a, R: Files + AllocGlobal + Clone + Drop> Cloud for DirCloud<'a, R> {
     }
 
     fn get(&mut self, name: &[u8], limit: u32) -> Result<Option<Bytes>, CloudFault>
+        ensures named { OnOk result (IsTrue (is_object_name name.now)) }
         ensures faults { CountsFault self.old self.new (said found result) }
         ensures counted { IsCounted self.old self.new (said found result) }
         ensures logged { IsLogged None None (CloudRequest.Get name.now limit) (said found result) }
@@ -219,6 +230,7 @@ impl<'a, R: Files + AllocGlobal + Clone + Drop> Cloud for DirCloud<'a, R> {
     }
 
     fn delete(&mut self, name: &[u8]) -> Result<(), CloudFault>
+        ensures named { OnOk result (IsTrue (is_object_name name.now)) }
         ensures faults { CountsFault self.old self.new (said acked result) }
         ensures counted { IsCounted self.old self.new (said acked result) }
         ensures logged { IsLogged None None (CloudRequest.Delete name.now) (said acked result) }
@@ -231,6 +243,7 @@ impl<'a, R: Files + AllocGlobal + Clone + Drop> Cloud for DirCloud<'a, R> {
     }
 
     fn list(&mut self, prefix: &[u8]) -> Result<NameList, CloudFault>
+        ensures named { IfOk result (λ names. All (IsListed prefix.now) names) }
         ensures faults { CountsFault self.old self.new (said CloudAnswer.Names result) }
         ensures counted { IsCounted self.old self.new (said CloudAnswer.Names result) }
         ensures logged { IsLogged None None (CloudRequest.List prefix.now) (said CloudAnswer.Names result) }
