@@ -1,5 +1,5 @@
 -- What a cloud promises of a call, and what asking a cloud comes to.
-use Rattle.std.specs.Prelude.{◌≡◌, ◌≤◌, ◌⊎◌, ℕ, List, [], ◌∷◌, ◌++◌, Option, Some, None, Result, Ok, Err}
+use Rattle.std.specs.Prelude.{◌≡◌, ◌≤◌, ◌⊎◌, ℕ, List, [], ◌∷◌, ◌++◌, Option, Some, None, Result, Ok, Err, IfOk}
 use Rattle.scfs_base.specs.Outside.{Rose}
 use Rattle.scfs_base.specs.declared.outside.Memory.{Memory}
 use Rattle.scfs_base.specs.declared.cloud.CloudRequest.{CloudRequest}
@@ -7,7 +7,7 @@ use Rattle.scfs_base.specs.declared.cloud.CloudAnswer.{CloudAnswer}
 use Rattle.scfs_base.specs.declared.cloud.CloudAnswer.TheVariants as answers
 use Rattle.scfs_net.specs.Store.{Objects}
 use Rattle.scfs_net.specs.Queues.{answer_of, objects_with}
-use Rattle.scfs_cloud.specs.Cutting.{cut_answer, HasShortNames}
+use Rattle.scfs_cloud.specs.Cutting.{cut_answer, HasShortNames, IsKept}
 use Rattle.scfs_cloud.specs.declared.cloud.CloudFault.{CloudFault}
 use Rattle.scfs_cloud.specs.declared.cloud.CloudFault.TheVariants as faults
 use Rattle.scfs_cloud.specs.declared.cloud.Exchange.{Exchange}
@@ -82,8 +82,10 @@ Stores request (Some objects) after (Ok given) =
 Stores request (Some objects) after (Err e) = ServedAtMost objects after request
 
 -- a cloud was asked this: what it says of its log, its store and its count of faults before and after, and what came of it
-pub record Asks (request : CloudRequest) (old_log new_log : Option (List Exchange)) (old_store new_store : Option Objects) (old_faults new_faults : ℕ) (result : Result CloudAnswer Memory) : Type 0 where
+pub record Asks (request : CloudRequest) (old_log new_log : Option (List Exchange)) (old_store new_store : Option Objects)
+    (old_faults new_faults : ℕ) (result : Result CloudAnswer Memory) : Type 0 where
   pub counted : old_faults ≤ new_faults
   pub failed : result ≡ Ok answers.Fail → Rose old_faults new_faults
+  pub kept : IfOk result (IsKept request)
   pub log : Logs request old_log new_log result
   pub store : Stores request old_store new_store result

@@ -1,5 +1,5 @@
 -- What comes next is heard, and then done.
-use Rattle.std.proofs.Common.{◌≡◌, ℕ, List, [], ◌∷◌, refl, ap, sym, subst, Option, Result, Ok, Err}
+use Rattle.std.proofs.Common.{◌≡◌, ℕ, List, sym, subst, Option, Result, Ok, Err}
 use Rattle.scfs_base.specs.declared.cloud.CloudAnswer.{CloudAnswer}
 use Rattle.scfs_base.specs.declared.outside.Memory.{Memory}
 use Rattle.scfs_policy.specs.declared.rank.RankFacts.{RankFacts}

@@ -1,13 +1,13 @@
 -- The loop of a drive.
-use Rattle.std.proofs.Common.{◌≡◌, ℕ, List, ◌++◌, refl, ap, ◌∙◌, sym, subst, Option, Some, None, Result, Ok, Err}
+use Rattle.std.proofs.Common.{◌≡◌, ℕ, List, ◌++◌, ap, ◌∙◌, sym, subst, Option, Some, None, Ok, Err}
 use Rattle.scfs_policy.specs.declared.rank.RankFacts.{RankFacts}
 use Rattle.scfs_schedule.specs.declared.types.Event.{Event}
 use Rattle.scfs_schedule.specs.declared.types.Header.{Header}
 use Rattle.scfs_model.specs.History.{History}
 use Rattle.scfs_model.specs.UnitFormat.{under}
-use Rattle.scfs_world.specs.Happening.{IsPlayed, Stands}
+use Rattle.scfs_world.specs.Happening.{Stands}
 use Rattle.scfs_world.specs.State.{WorldState}
-use Rattle.scfs_live.specs.Able.{CanBeNext, Fits}
+use Rattle.scfs_live.specs.Able.{Fits}
 use Rattle.scfs_live.specs.Asked.{Told}
 use Rattle.scfs_live.specs.Drives.{Drives, Ends, Going}
 use Rattle.scfs_live.specs.Driving.{Driver, next_within}

@@ -1,5 +1,5 @@
 -- What comes next can be done.
-use Rattle.std.proofs.Common.{◌≡◌, ◌<◌, ◌≤◌, ℕ, ◌+◌, ◌*◌, zero, suc, List, [], ◌∷◌, ◌++◌, Bool, true, false, Option, Some, None, refl, ap, sym, subst, ◌⊎◌, inl, inr, arith, length}
+use Rattle.std.proofs.Common.{◌≡◌, ◌<◌, ◌≤◌, ℕ, ◌+◌, ◌*◌, zero, suc, List, [], ◌∷◌, ◌++◌, Bool, true, false, Option, Some, None, refl, subst, ◌⊎◌, inl, inr, arith, length}
 use Rattle.std.specs.Prelude.{if◌then◌else◌, IfSome}
 use Rattle.std.specs.List.{flat_map, range_with_len}
 use Rattle.scfs_anchor.specs.Tree.{Each}
@@ -8,7 +8,7 @@ use Rattle.scfs_schedule.specs.declared.types.Event.{Event}
 use Rattle.scfs_schedule.specs.declared.types.Event.TheVariants as events
 use Rattle.scfs_schedule.specs.declared.types.Header.{Header}
 use Rattle.scfs_model.specs.UnitFormat.{under}
-use Rattle.scfs_live.specs.Able.{CanBeDone, CanBeNext, Fits}
+use Rattle.scfs_live.specs.Able.{CanBeNext, Fits}
 use Rattle.scfs_live.specs.Driving.{Driver, agent_called, agent_work, begins_with, begun, cloud_work, next_settled, next_turn, next_within, next_work, or_anew, or_given, or_settled, round, with_work}
 use Rattle.scfs_live.specs.Given.{IsWork}
 use Rattle.scfs_live.specs.Waits.{Waits, answer_waits, call_waits, reply_waits, request_waits, step_waits}

@@ -1,21 +1,26 @@
 -- One of the real clouds is asked; and what waits at a cloud that is asked.
-use Rattle.std.proofs.Common.{◌≡◌, ◌≢◌, ◌<◌, ◌≤◌, ℕ, zero, suc, List, [], ◌∷◌, Option, Some, None, refl, ap, ◌∙◌, sym, subst, arith, length, get_or}
+use Rattle.std.proofs.Common.{◌≡◌, ◌≢◌, ℕ, zero, suc, List, [], ◌∷◌, Some, refl, ap, subst, length, get_or}
 use Rattle.std.specs.Prelude.{map, slice_get}
 use Rattle.std.proofs.Math.ListN.{set}
 use Rattle.scfs_base.specs.Limits.{names_limit}
 use Rattle.scfs_base.specs.declared.cloud.CloudAnswer.{CloudAnswer}
 use Rattle.scfs_base.specs.declared.cloud.CloudAnswer.TheVariants as answers
-use Rattle.scfs_cloud.specs.Kinds.{HasFewNames}
+use Rattle.scfs_base.specs.declared.cloud.CloudRequest.{CloudRequest}
+use Rattle.scfs_base.specs.declared.cloud.CloudRequest.TheVariants as requests
+use Rattle.scfs_cloud.specs.Cutting.{IsKept}
 use Rattle.scfs_schedule.specs.Grammar.{HasNames}
 use Rattle.scfs_live.specs.Asked.{Told}
 use Rattle.scfs_live.specs.Hearing.{AtOne}
 
-pub has_names : (answer : CloudAnswer) → HasFewNames answer → HasNames answer names_limit
-has_names answers.Ack few = tt
-has_names answers.Absent few = tt
-has_names (answers.Bytes bytes) few = tt
-has_names (answers.Names names) few = few
-has_names answers.Fail few = tt
+pub has_names : (request : CloudRequest) (answer : CloudAnswer) → IsKept request answer → HasNames answer names_limit
+has_names request answers.Ack kept = tt
+has_names request answers.Absent kept = tt
+has_names request (answers.Bytes bytes) kept = tt
+has_names (requests.List prefix) (answers.Names names) kept = kept.few
+has_names (requests.Put name body) (answers.Names names) kept = absurd kept
+has_names (requests.Get name limit) (answers.Names names) kept = absurd kept
+has_names (requests.Delete name) (answers.Names names) kept = absurd kept
+has_names request answers.Fail kept = tt
 
 map_length : {X Y : Type 0} (f : X → Y) (xs : List X) → length (map f xs) ≡ length xs
 map_length f [] = refl

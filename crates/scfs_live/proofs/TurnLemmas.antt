@@ -1,15 +1,13 @@
 -- What became of one event.
-use Rattle.std.proofs.Common.{◌≡◌, ◌<◌, ◌^◌, ℕ, ◌+◌, suc, List, [], ◌∷◌, ◌++◌, refl, ap, ◌∙◌, sym, subst, Option, Some, None, Result, Ok, Err, length, arith}
+use Rattle.std.proofs.Common.{◌≡◌, ◌<◌, ◌^◌, ℕ, ◌+◌, List, ◌∷◌, ◌++◌, ap, ◌∙◌, sym, subst, Option, Result, Ok, Err, length, arith}
 use Rattle.std.specs.Prelude.{IfOk}
 use Rattle.std.specs.List.{flat_map}
 use Rattle.scfs_base.specs.Limits.{carried_limit}
-use Rattle.scfs_base.specs.Outside.{Puts}
 use Rattle.scfs_policy.specs.declared.rank.RankFacts.{RankFacts}
 use Rattle.scfs_schedule.specs.Text.{event_text, numbered}
 use Rattle.scfs_schedule.specs.declared.types.Event.{Event}
 use Rattle.scfs_schedule.specs.declared.types.Header.{Header}
 use Rattle.scfs_schedule.specs.declared.types.Line.{Line}
-use Rattle.scfs_schedule.specs.declared.types.Which.{Which}
 use Rattle.scfs_schedule.specs.declared.types.Which.TheVariants as whiches
 use Rattle.scfs_net.specs.Queues.{NetState}
 use Rattle.scfs_model.specs.Clouds.{all_asked, message_of, moved_by, net}
@@ -22,7 +20,6 @@ use Rattle.scfs_world.specs.Happening.{IsPlayed, Stands}
 use Rattle.scfs_world.specs.State.{WorldState}
 use Rattle.scfs_world.specs.Stepping.{IsTooLarge}
 use Rattle.scfs_world.specs.Whole.{StatesAreWhole}
-use Rattle.scfs_live.specs.Edges.{GetsPart}
 use Rattle.scfs_live.specs.Journal.{entry_lines, entry_piece, kept_line}
 use Rattle.scfs_live.specs.Recording.{IsTooLargeNext, Writes}
 use Rattle.scfs_live.specs.Turning.{Played, Turned, WroteNothing}

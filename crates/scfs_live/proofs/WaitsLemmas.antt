@@ -1,13 +1,11 @@
 -- What waits in a world that stands for a history is what waits after it.
-use Rattle.std.proofs.Common.{◌≡◌, ℕ, ◌+◌, List, [], ◌∷◌, refl, ap, ◌∙◌, sym, Bool, Option}
+use Rattle.std.proofs.Common.{◌≡◌, ℕ, ◌+◌, List, [], ◌∷◌, refl, ap, ◌∙◌, Bool}
 use Rattle.std.specs.Prelude.{is_some, map}
 use Rattle.scfs_schedule.specs.declared.types.Header.{Header}
 use Rattle.scfs_net.specs.Queues.{NetState}
-use Rattle.scfs_model.specs.Agents.{Waiting}
 use Rattle.scfs_model.specs.History.{History}
 use Rattle.scfs_model.specs.Layers.{Row}
 use Rattle.scfs_model.specs.Runs.{actual}
-use Rattle.scfs_model.specs.Clouds.{net}
 use Rattle.scfs_model.specs.States.{Seat}
 use Rattle.scfs_model.specs.UnitFormat.{under}
 use Rattle.scfs_world.specs.Happening.{Stands}

@@ -1,5 +1,5 @@
 -- What a drive writes of its new events: their pieces to the journal, and behind that their lines to out.
-use Rattle.std.specs.Prelude.{◌≡◌, ◌≤◌, ◌<◌, ℕ, List, [], ◌∷◌, ◌++◌, length, Option, Some, None, Result, Ok, Err}
+use Rattle.std.specs.Prelude.{◌≡◌, ◌≤◌, ◌<◌, ℕ, List, [], ◌∷◌, Option, Result, Ok, Err}
 use Rattle.scfs_base.specs.Limits.{carried_limit}
 use Rattle.scfs_base.specs.Outside.{Puts, Rose}
 use Rattle.scfs_policy.specs.declared.rank.RankFacts.{RankFacts}

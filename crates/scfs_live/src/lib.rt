@@ -8,8 +8,6 @@ mod hearing;
 mod laws;
 mod recording;
 #[cfg(test)]
-mod stub;
-#[cfg(test)]
 mod tests;
 mod waits;
 mod writing;

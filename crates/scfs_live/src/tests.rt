@@ -1,8 +1,8 @@
 use crate::driving::drive;
 use crate::ending::LiveEnd;
-use crate::stub::MemCloud;
 use crate::writing::write_all;
 use scfs_base::{Bytes, MemSink, Sequence};
+use scfs_cloud::MemCloud;
 use scfs_policy::{RankFacts, RankRule};
 use scfs_schedule::{Header, Mode, Which, push_header, read_event};
 use scfs_world::World;

@@ -1,5 +1,4 @@
-use Rattle.std.proofs.Common.{ℕ, ◌∙◌, ap, arith, subst, sym}
-use Rattle.scfs_policy.specs.declared.rank.RankFacts.{RankFacts}
+use Rattle.std.proofs.Common.{◌∙◌, ap, arith, subst, sym}
 use Rattle.scfs_schedule.specs.declared.types.Header.{Header}
 use Rattle.scfs_model.specs.UnitFormat.{under}
 use Rattle.scfs_live.specs.Able.{Fits}

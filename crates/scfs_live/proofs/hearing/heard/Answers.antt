@@ -9,4 +9,4 @@ pub returns-in-Ok-clause-done : goal.returns-in-Ok-clause-done
 returns-in-Ok-clause-done g c =
     let world = c.args.world.now in
     let there = subst (λ (n : Next). CanBeNext world.header (waits_in world) n) c.in-Hears.is c.requires.next in
-    record { fits = (there.0, has_names c.in-Ok.answer c.in-Ok.ensures.given.few); built = refl }
+    record { fits = (there.0, has_names _ c.in-Ok.answer c.in-Ok.ensures.kept); built = refl }
