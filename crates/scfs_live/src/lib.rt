@@ -2,27 +2,27 @@
 #![tactic(auto)]
 
 mod awaited;
-mod drive;
 mod driver;
+mod driving;
 mod ending;
 mod finding;
 mod hearing;
+mod laws;
 mod limits;
 #[cfg(test)]
 mod old_journals;
 mod pieces;
-mod record;
+mod recording;
 mod reopening;
 mod running;
-#[cfg(test)]
-mod stub;
 #[cfg(test)]
 mod tests;
 mod waits;
 mod writing;
 
-pub use drive::drive;
 pub use driver::{Driver, Next, Work};
+pub use driving::drive;
 pub use ending::LiveEnd;
+pub use laws::drives_make_runs;
 pub use reopening::reopen;
 pub use writing::write_all;
