@@ -18,7 +18,7 @@ use Rattle.scfs_live.specs.Finding.{found}
 use Rattle.scfs_live.specs.Keeping.{missing, unkept}
 use Rattle.scfs_live.specs.Limits.{journal_limit}
 use Rattle.scfs_live.specs.Reopened.{EndsAgain, EndsLines, EndsReopening, Passes, RunsAll, StopsAt, old_lines}
-use Rattle.scfs_live.specs.Reopening.{EndsAt, Follows, GoesOn, IsAt, RunsAgain, Walk, Walks, unwalked}
+use Rattle.scfs_live.specs.Reopening.{EndsAt, Follows, GoesOn, RunsAgain, Walks, unwalked}
 use Rattle.scfs_live.specs.Rereading.{EndsWriting, GivesNext, IsSoFar, Rereads, StopsReading}
 use Rattle.scfs_live.specs.Taking.{Fed}
 use Rattle.scfs_live.proofs.EdgeLemmas.{takes_then}

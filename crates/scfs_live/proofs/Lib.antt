@@ -2,5 +2,6 @@ pub mod EdgeLemmas
 pub mod FarLemmas
 pub mod KeepingLemmas
 pub mod LineLemmas
+mod RowReopened
 pub mod SplitLemmas
 pub mod WalkLemmas

@@ -1,5 +1,5 @@
 -- The whole lines of a text that is taken piece by piece.
-use Rattle.std.proofs.Common.{◌≡◌, ◌≢◌, ◌≤◌, ◌⊎◌, ℕ, List, [], ◌∷◌, ◌++◌, refl, ap, ◌∙◌, sym, subst, Bool, true, false, cond, eqb, ltb, Option, Some, None, length, append_assoc, append-nil, inl, inr, take, arith}
+use Rattle.std.proofs.Common.{◌≡◌, ◌≢◌, ◌≤◌, ◌⊎◌, ℕ, List, [], ◌∷◌, ◌++◌, refl, ap, ◌∙◌, sym, Bool, true, false, cond, eqb, ltb, Option, Some, None, length, append_assoc, append-nil, inl, inr, take, arith}
 use Rattle.std.proofs.lemmas.Bool.{ltb-false}
 use Rattle.scfs_base.specs.Pieces.{onto, pieces}
 use Rattle.scfs_schedule.specs.declared.types.Which.{Which}

@@ -1,23 +1,21 @@
 -- What reopening an old journal comes to.
-use Rattle.std.specs.Prelude.{◌≡◌, ℕ, ◌+◌, List, [], ◌∷◌, ◌++◌, length, Option, Some, None, IfSome, Result, Ok, Err}
+use Rattle.std.specs.Prelude.{◌≡◌, ℕ, ◌+◌, List, [], ◌∷◌, ◌++◌, length, Option, Some, None, IfSome}
 use Rattle.scfs_base.specs.Outside.{Takes, Puts, Rose}
 use Rattle.scfs_policy.specs.declared.rank.RankFacts.{RankFacts}
 use Rattle.scfs_schedule.specs.Holding.{is_unfinished}
-use Rattle.scfs_schedule.specs.Splitting.{Split, Splitting, lines_of, no_lines, split}
+use Rattle.scfs_schedule.specs.Splitting.{Split, split}
 use Rattle.scfs_schedule.specs.declared.types.Header.{Header}
 use Rattle.scfs_schedule.specs.declared.types.Which.{Which}
 use Rattle.scfs_schedule.specs.declared.types.Which.TheVariants as whichs
 use Rattle.scfs_world.specs.Happening.{Stands}
 use Rattle.scfs_world.specs.State.{WorldState}
-use Rattle.scfs_world.specs.Stepping.{IsWorld}
 use Rattle.scfs_live.specs.declared.ending.LiveEnd.{LiveEnd}
 use Rattle.scfs_live.specs.declared.ending.LiveEnd.TheVariants as ends
-use Rattle.scfs_live.specs.declared.running.Running.{Running}
 use Rattle.scfs_live.specs.Edges.{GetsPart}
 use Rattle.scfs_live.specs.Finding.{found}
 use Rattle.scfs_live.specs.Keeping.{missing}
 use Rattle.scfs_live.specs.Limits.{journal_limit}
-use Rattle.scfs_live.specs.Reopening.{EndsAt, IsAt, RunsAgain, Walk, Walks, unwalked}
+use Rattle.scfs_live.specs.Reopening.{EndsAt, RunsAgain, Walk}
 
 -- the whole lines of an old journal of these bytes, up to the place at which it passes a limit, if it does
 abbrev pub old_lines : List ℕ → Split

@@ -15,7 +15,7 @@ use crate::LiveEnd;
 use crate::awaited::Awaited;
 use crate::finding::Found;
 use crate::limits::EVENTS_LIMIT;
-use scfs_base::Memory;
+use scfs_base::{Bytes, Memory};
 use scfs_policy::{RankFacts, RankRule};
 use scfs_schedule::{Bad, Event, Header, Which};
 use scfs_world::{StepFault, Stepped, World, is_built, states_are_whole};
@@ -131,6 +131,13 @@ impl Running {
     }
 }
 
+/// The line of this number is not the one that was made.
+fn differs(line: u64, kept: Bytes, made: Bytes) -> LiveEnd
+    ensures { result ≡ LiveEnd.Differs line kept made }
+{
+    LiveEnd::Differs { line, kept, made }
+}
+
 /// Does what the line of this number was found to be.
 fn after_line<R: Fn(RankFacts) -> u64>(
     alloc: Global,
@@ -159,11 +166,7 @@ fn after_line<R: Fn(RankFacts) -> u64>(
             awaited: awaited.without_line(),
         }),
         Found::Does(event) => play(alloc, number, world, event, rank),
-        Found::Differs(kept, made) => Err(LiveEnd::Differs {
-            line: number,
-            kept,
-            made,
-        }),
+        Found::Differs(kept, made) => Err(differs(number, kept, made)),
         Found::Wrong(kind) => Err(LiveEnd::Bad(Bad { line: number, kind })),
     }
 }
