@@ -1,5 +1,6 @@
 pub mod EdgeLemmas
 pub mod FarLemmas
+pub mod GoingOnLemmas
 pub mod KeepingLemmas
 pub mod LineLemmas
 mod RowReopened

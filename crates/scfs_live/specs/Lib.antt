@@ -1,5 +1,6 @@
 pub mod Edges
 pub mod Finding
+pub mod GoingOn
 pub mod Journal
 pub mod Keeping
 pub mod Limits

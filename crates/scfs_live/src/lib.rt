@@ -4,6 +4,7 @@
 mod awaited;
 mod ending;
 mod finding;
+mod going_on;
 mod limits;
 #[cfg(test)]
 mod old_journals;
@@ -13,5 +14,6 @@ mod running;
 mod writing;
 
 pub use ending::LiveEnd;
+pub use going_on::left_journals_go_on;
 pub use reopening::reopen;
 pub use writing::write_all;

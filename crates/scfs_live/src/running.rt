@@ -1,4 +1,4 @@
-ghost use Rattle.std.specs.Prelude.{◌≡◌, ◌≤◌, ◌<◌, true, [], ℕ, map, IfOk};
+ghost use Rattle.std.specs.Prelude.{◌≡◌, ◌≤◌, ◌<◌, ◌↔◌, true, [], ℕ, map, IfOk, IsTrue};
 ghost use Rattle.scfs_base.specs.Limits.{events_limit};
 ghost use Rattle.scfs_policy.specs.Rank.{IsRankRule};
 ghost use Rattle.scfs_schedule.specs.Grammar.{IsEvent, IsHeader};
@@ -69,6 +69,13 @@ fn step<R: Fn(RankFacts) -> u64>(
     }
 }
 
+/// Whether so many events are the most.
+fn is_full(events: u64) -> bool
+    ensures { IsTrue result ↔ (events ≡ events_limit) }
+{
+    events == EVENTS_LIMIT
+}
+
 /// Plays the event of the line of this number, unless it ends the running again.
 fn play<R: Fn(RankFacts) -> u64>(
     alloc: Global,
@@ -87,7 +94,7 @@ fn play<R: Fn(RankFacts) -> u64>(
 {
     if !is_built(&event) {
         Err(LiveEnd::Unbuilt(number))
-    } else if world.events() == EVENTS_LIMIT {
+    } else if is_full(world.events()) {
         Err(LiveEnd::TooLarge(Which::Events))
     } else {
         step(alloc, world, &event, rank)
