@@ -14,7 +14,7 @@ use Rattle.scfs_world.specs.Built.{is_built}
 use Rattle.scfs_live.specs.declared.finding.Found.{Found}
 use Rattle.scfs_live.specs.declared.finding.Found.TheVariants as founds
 use Rattle.scfs_live.specs.Finding.{body_found, compared, event_found, event_read, found, is_left_out, kept_found}
-use Rattle.scfs_live.specs.GoingOn.{AreDone, LeftJournalsGoOn, awaited_lines, event_lines, journal_lines, kept_lines}
+use Rattle.scfs_live.specs.GoingOn.{AreDone, FirstLinesGoOn, awaited_lines, event_lines, journal_lines, kept_lines}
 use Rattle.scfs_live.specs.Keeping.{made_line, whole_lines}
 use Rattle.scfs_live.specs.Reopening.{Follows, Walk, Walks, with_event}
 
@@ -221,8 +221,8 @@ journal-onto : (header : Header) (next : List Entry) (past : History) → journa
 journal-onto header [] past = append-nil (journal_lines header past)
 journal-onto header (e ∷ next) past = sym (append_assoc (journal_lines header past) (event_lines past e) (next_lines next (e ∷ past))) ∙ journal-onto header next (e ∷ past)
 
-pub left_journals_go_on : LeftJournalsGoOn
-left_journals_go_on header past lines later done left =
+pub first_lines_go_on : FirstLinesGoOn
+first_lines_go_on header past lines later done left =
     let next = in_order past [] in
     let same : onto next [] ≡ past = onto-in_order past [] in
     let header_lines = whole_lines (header_text header) in

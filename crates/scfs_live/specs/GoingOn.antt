@@ -44,7 +44,7 @@ pub record GoesOnBehind (header : Header) (past : History) (lines : List (List �
   pub kept : kept_lines lines ++ awaited_lines place.awaited ≡ journal_lines header place.past
 
 -- so it is of all lines of which those that are not left out are the first of the journal of a history
-abbrev pub LeftJournalsGoOn : Type 0
-LeftJournalsGoOn =
+abbrev pub FirstLinesGoOn : Type 0
+FirstLinesGoOn =
     (header : Header) (past : History) (lines later : List (List ℕ)) → AreDone header past → journal_lines header past ≡ kept_lines lines ++ later
     → GoesOnBehind header past lines

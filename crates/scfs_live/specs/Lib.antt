@@ -3,6 +3,7 @@ pub mod Finding
 pub mod GoingOn
 pub mod Journal
 pub mod Keeping
+pub mod Leaving
 pub mod Limits
 pub mod Reopened
 pub mod Reopening

@@ -1,9 +1,14 @@
 //! What holds of every journal that was left; the functions only carry the laws.
 
-ghost use Rattle.scfs_live.specs.GoingOn.{LeftJournalsGoOn};
+ghost use Rattle.scfs_live.specs.Leaving.{LeftJournalsGoOn, StopsLeaveJournals};
 
-/// An old journal of which the lines that are not left out are the first of the journal of a history is run again without a stop, up
-/// to a history of the first events of that one; each kept line is the one that was made.
+/// What is left of the journal of a history is run again without a stop, up to a history of the first events of that one; each kept
+/// line is the one that was made.
 pub fn left_journals_go_on()
     ensures { LeftJournalsGoOn }
+{}
+
+/// Whatever front of what was to be written a stop leaves behind an old journal, it is left of the journal with the new events.
+pub fn stops_leave_journals()
+    ensures { StopsLeaveJournals }
 {}
