@@ -4,6 +4,7 @@ pub mod GoingOnLemmas
 pub mod KeepingLemmas
 pub mod LeavingLemmas
 pub mod LineLemmas
+pub mod PlainLemmas
 mod RowReopened
 pub mod SplitLemmas
 pub mod WalkLemmas
