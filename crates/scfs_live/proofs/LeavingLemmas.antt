@@ -1,11 +1,11 @@
 -- What a stop leaves of a journal.
-use Rattle.std.proofs.Common.{◌≡◌, ◌≢◌, ◌≤◌, ℕ, ◌+◌, List, [], ◌∷◌, ◌++◌, refl, ap, ◌∙◌, sym, subst, Bool, true, false, not, cond, eqb, None, length, map, append_assoc, append-nil, inl, inr, ◌⊎◌, arith}
+use Rattle.std.proofs.Common.{◌≡◌, ◌≢◌, ◌≤◌, ℕ, ◌+◌, List, [], ◌∷◌, ◌++◌, refl, ap, ◌∙◌, sym, subst, Bool, true, false, not, cond, eqb, length, map, append_assoc, append-nil, inl, inr, ◌⊎◌, arith}
 use Rattle.std.specs.List.{flat_map}
 use Rattle.std.proofs.lemmas.Bool.{eqb-false, eqb-true, ne_eqb}
 use Rattle.std.proofs.lemmas.Grind.{flat_map-append}
 use Rattle.scfs_base.specs.Pieces.{onto, pieces}
 use Rattle.scfs_schedule.specs.Holding.{is_unfinished}
-use Rattle.scfs_schedule.specs.Text.{event_text, numbered}
+use Rattle.scfs_schedule.specs.Text.{event_text, header_text}
 use Rattle.scfs_schedule.specs.declared.types.Header.{Header}
 use Rattle.scfs_schedule.specs.declared.types.Line.{Line}
 use Rattle.scfs_schedule.specs.declared.types.Which.TheVariants as whichs
@@ -15,11 +15,12 @@ use Rattle.scfs_live.specs.Finding.{is_left_out}
 use Rattle.scfs_live.specs.GoingOn.{awaited_lines, event_lines, journal_lines, kept_lines}
 use Rattle.scfs_live.specs.Journal.{entry_piece, kept_line, pieces_of}
 use Rattle.scfs_live.specs.Keeping.{all_but_last, awaited_text, ended, ended_kept, made_line, mark_if, whole_lines}
-use Rattle.scfs_live.specs.Leaving.{ArePlain, HoldsNoEnd, LeftJournalsGoOn, StopsLeaveJournals}
+use Rattle.scfs_live.specs.Leaving.{LeftJournalsGoOn, StopsLeaveJournals}
 use Rattle.scfs_live.specs.Limits.{journal_limit}
 use Rattle.scfs_live.specs.Reopened.{old_lines}
 use Rattle.scfs_live.proofs.GoingOnLemmas.{first_lines_go_on}
 use Rattle.scfs_live.proofs.KeepingLemmas.{all_but_last-pieces}
+use Rattle.scfs_live.proofs.PlainLemmas.{ArePlain, HoldsNoEnd, are_plain_event, are_plain_rows, are_plain_then, header_rows, no_end_then, rows_text}
 use Rattle.scfs_live.proofs.SplitLemmas.{is_unfinished-append, split_whole}
 
 -- a text without a line's end is one piece
@@ -244,10 +245,6 @@ leaves_parts text front lines p more later all kept =
           ∙ ap (λ ls. kept_lines ls ++ more) (sym whole);
     }
 
-no_end_then : (x y : List ℕ) → HoldsNoEnd x → HoldsNoEnd y → HoldsNoEnd (x ++ y)
-no_end_then [] y h k = k
-no_end_then (b ∷ x) y h k = (h.0, no_end_then x y h.1 k)
-
 leaves_whole : (text front back : List ℕ) (lines : List (List ℕ)) → ArePlain lines → is_unfinished text ≡ false → flat_map ended lines ≡ front ++ back
     → Leaves text front lines
 leaves_whole text front back lines plain whole is =
@@ -288,8 +285,27 @@ leaves : (text front back : List ℕ) (lines : List (List ℕ)) (u : Bool) → A
 leaves text front back lines false plain unfinished is = leaves_whole text front back lines plain unfinished is
 leaves text front back lines true plain unfinished is = leaves_marked text front back lines plain is
 
+-- the lines of a journal are plain
+
+hold_no_ends : (lines : List (List ℕ)) → ArePlain lines → HoldNoEnds lines
+unfolding HoldNoEnds
+hold_no_ends [] h = tt
+hold_no_ends (line ∷ lines) h = (h.0, hold_no_ends lines h.2)
+
+header_plain : (header : Header) → ArePlain (whole_lines (header_text header))
+header_plain header =
+    let rows = header_rows header in
+    let plain = are_plain_rows header in
+    let is : whole_lines (header_text header) ≡ rows =
+    ap whole_lines (rows_text header ∙ sym (append-nil (flat_map ended rows))) ∙ whole_lines-append rows [] (hold_no_ends rows plain) ∙ append-nil rows in
+    subst ArePlain (sym is) plain
+
+journal_plain : (header : Header) (past : History) → ArePlain (journal_lines header past)
+journal_plain header [] = header_plain header
+journal_plain header (e ∷ past) = are_plain_then (journal_lines header past) (event_lines past e) (journal_plain header past) (are_plain_event past e)
+
 pub stops_leave_journals : StopsLeaveJournals
-stops_leave_journals header place new old front back plain kept is =
+stops_leave_journals header place new old front back kept is =
     let past = place.past in
     let awaited = awaited_lines place.awaited in
     let new_ones = new_lines new past in
@@ -302,7 +318,7 @@ stops_leave_journals header place new old front back plain kept is =
     (flat_map-append ended awaited new_ones ∙ ap (λ t. t ++ flat_map ended new_ones) (sym (awaited_text-lines place.awaited))
     ∙ ap (λ t. awaited_text place.awaited ++ t) (sym (pieces_text new past)))
     ∙ sym (append_assoc (mark_if (is_unfinished old)) (awaited_text place.awaited) (pieces_of new past)) ∙ is in
-    let l = leaves old front back lines (is_unfinished old) (plain_behind kept_ones lines (subst ArePlain journal plain)) refl text in
+    let l = leaves old front back lines (is_unfinished old) (plain_behind kept_ones lines (subst ArePlain journal (journal_plain header (new ++ past)))) refl text in
     (l.later, journal ∙ ap (λ ls. kept_ones ++ ls) l.all ∙ sym (append_assoc kept_ones l.more l.later) ∙ ap (λ ls. ls ++ l.later) (sym l.kept))
 
 pub left_journals_go_on : LeftJournalsGoOn

@@ -1,10 +1,11 @@
 -- The lines of a journal hold no byte 0a and do not end with `~`, whatever their numbers and bytes are.
-use Rattle.std.proofs.Common.{◌≡◌, ◌≢◌, ◌<◌, ℕ, ◌+◌, ◌/◌, ◌%◌, suc, zero, List, [], ◌∷◌, ◌++◌, refl, ap, ◌∙◌, sym, subst, Bool, true, false, ◌&&◌, not, cond, eqb, length, map, append_assoc, append-nil, inl, inr, ◌⊎◌, arith}
+use Rattle.std.proofs.Common.{◌≡◌, ◌≢◌, ◌<◌, ℕ, ◌+◌, ◌/◌, ◌%◌, suc, zero, List, [], ◌∷◌, ◌++◌, refl, ap, ◌∙◌, sym, Bool, true, false, ◌&&◌, not, cond, eqb, length, map, append_assoc, append-nil, inl, inr, ◌⊎◌, arith}
 use Rattle.std.specs.Prelude.{codes, drop}
 use Rattle.std.specs.Fmt.{decimal, digit_glyph, digits, digits_onto}
 use Rattle.std.specs.Int.{to_be_bytes, w32}
-use Rattle.std.specs.List.{flat_map, list_all}
-use Rattle.std.proofs.lemmas.Bool.{eqb-false}
+use Rattle.std.specs.List.{flat_map}
+use Rattle.std.proofs.lemmas.Bool.{eqb-false, ne_eqb}
+use Rattle.std.proofs.lemmas.Grind.{flat_map-append}
 use Rattle.std.proofs.lemmas.Bool.Decides.{nat_tests}
 use Rattle.scfs_base.specs.Words.{hex_digit, hex_pair, hex_text, hex_word, path_byte, path_word, stands_for_itself}
 use Rattle.scfs_base.specs.declared.cloud.CloudAnswer.{CloudAnswer}
@@ -15,6 +16,7 @@ use Rattle.scfs_schedule.specs.declared.types.Call.{Call}
 use Rattle.scfs_schedule.specs.declared.types.Call.TheVariants as calls
 use Rattle.scfs_schedule.specs.declared.types.Event.{Event}
 use Rattle.scfs_schedule.specs.declared.types.Event.TheVariants as events
+use Rattle.scfs_schedule.specs.declared.types.Header.{Header}
 use Rattle.scfs_schedule.specs.declared.types.How.{How}
 use Rattle.scfs_schedule.specs.declared.types.How.TheVariants as hows
 use Rattle.scfs_schedule.specs.declared.types.Kind.{Kind}
@@ -29,11 +31,23 @@ use Rattle.scfs_schedule.specs.declared.types.Src.{Src}
 use Rattle.scfs_schedule.specs.declared.types.Src.TheVariants as sources
 use Rattle.scfs_schedule.specs.declared.types.Sum.{Sum}
 use Rattle.scfs_schedule.specs.declared.types.Sum.TheVariants as sums
-use Rattle.scfs_schedule.specs.Text.{answer_text, call_text, event_text, how_text, kind_text, line_text, mode_text, names_text, path_bytes, refusal_text, request_text, source_text, sum_text, upload_text}
+use Rattle.scfs_schedule.specs.Text.{agent_text, agents_text, answer_text, call_text, event_text, header_text, how_text, kind_text, line_text, mode_text, names_text, refusal_text, request_text, source_text, sum_text, upload_text}
+use Rattle.scfs_model.specs.History.{Entry, History}
 use Rattle.scfs_live.specs.Finding.{is_left_out}
-use Rattle.scfs_live.specs.Leaving.{HoldsNoEnd}
+use Rattle.scfs_live.specs.GoingOn.{event_lines}
+use Rattle.scfs_live.specs.Keeping.{ended, made_line}
 
-no_end_then : (x y : List ℕ) → HoldsNoEnd x → HoldsNoEnd y → HoldsNoEnd (x ++ y)
+-- bytes of which none is 0a
+abbrev pub HoldsNoEnd : List ℕ → Type 0
+HoldsNoEnd [] = Unit {0}
+HoldsNoEnd (byte ∷ bytes) = (byte ≢ 10) × HoldsNoEnd bytes
+
+-- each line holds no byte 0a, and does not end with `~`
+abbrev pub ArePlain : List (List ℕ) → Type 0
+ArePlain [] = Unit {0}
+ArePlain (line ∷ lines) = HoldsNoEnd line × (is_left_out line ≡ false) × ArePlain lines
+
+pub no_end_then : (x y : List ℕ) → HoldsNoEnd x → HoldsNoEnd y → HoldsNoEnd (x ++ y)
 no_end_then [] y h k = k
 no_end_then (b ∷ x) y h k = (h.0, no_end_then x y h.1 k)
 
@@ -49,8 +63,8 @@ plain_nothing = record { no_end = tt; ends = inl refl }
 ends_then : (x y : List ℕ) → Plain x → Plain y → ((x ++ y) ≡ []) ⊎ ((front : List ℕ) × (last : ℕ) × ((x ++ y) ≡ front ++ last ∷ []) × (last ≢ 126))
 ends_then x y p q =
     elim q.ends [
-      inl none ↦ elim p.ends [
-        inl empty ↦ inl (ap (λ t. t ++ y) empty ∙ none)
+      | inl none ↦ elim p.ends [
+        | inl empty ↦ inl (ap (λ t. t ++ y) empty ∙ none)
         | inr e ↦ inr (e.0, e.1, ap (λ t. x ++ t) none ∙ append-nil x ∙ e.2, e.3)
       ]
       | inr e ↦ inr (x ++ e.0, e.1, ap (λ t. x ++ t) e.2 ∙ sym (append_assoc x e.0 (e.1 ∷ [])), e.3)
@@ -325,3 +339,101 @@ plain_line_text (lines.Started agent incarnation) = plain_then _ _ (plain_then _
 plain_line_text (lines.Ready agent) = plain_then _ _ (plain_word (codes "ready") 32 refl refl) (plain_decimal agent)
 plain_line_text (lines.Adopted agent incarnation count) = plain_then _ _ (plain_then _ _ (plain_then _ _ (plain_word (codes "adopted") 32 refl refl) (plain_decimal agent)) (plain_space _ (plain_decimal incarnation))) (plain_space _ (plain_decimal count))
 plain_line_text (lines.AdoptedNone agent) = plain_then _ _ (plain_then _ _ (plain_word (codes "adopted") 32 refl refl) (plain_decimal agent)) (plain_word (codes " non") 101 refl refl)
+
+-- lines
+
+marked_by : (front : List ℕ) (b : ℕ) → is_left_out (front ++ b ∷ []) ≡ eqb b 126
+marked_by [] b = refl
+marked_by (x ∷ []) b = refl
+marked_by (x ∷ y ∷ front) b = marked_by (y ∷ front) b
+
+no_mark : (x : List ℕ) → Plain x → is_left_out x ≡ false
+no_mark x p =
+    elim p.ends [
+      | inl none ↦ ap is_left_out none
+      | inr e ↦ ap is_left_out e.2 ∙ marked_by e.0 e.1 ∙ ne_eqb e.1 126 e.3
+    ]
+
+are_plain_cons : (line : List ℕ) (lines : List (List ℕ)) → Plain line → ArePlain lines → ArePlain (line ∷ lines)
+are_plain_cons line lines p more = (p.no_end, no_mark line p, more)
+
+pub are_plain_then : (first others : List (List ℕ)) → ArePlain first → ArePlain others → ArePlain (first ++ others)
+are_plain_then [] others p q = q
+are_plain_then (line ∷ first) others p q = (p.0, p.1, are_plain_then first others p.2 q)
+
+plain_made : (n : ℕ) (line : Line) → Plain (32 ∷ made_line n line)
+plain_made n line =
+    plain_space (made_line n line) (plain_then (decimal n) (32 ∷ line_text line) (plain_decimal n) (plain_space (line_text line) (plain_line_text line)))
+
+are_plain_made : (n : ℕ) (lines : List Line) → ArePlain (map (λ line. 32 ∷ made_line n line) lines)
+are_plain_made n [] = tt
+are_plain_made n (line ∷ lines) = are_plain_cons (32 ∷ made_line n line) (map (λ line. 32 ∷ made_line n line) lines) (plain_made n line) (are_plain_made n lines)
+
+pub are_plain_event : (past : History) (e : Entry) → ArePlain (event_lines past e)
+are_plain_event past e =
+    let n = length past + 1 in
+    are_plain_cons (event_text e.event) (map (λ line. 32 ∷ made_line n line) e.lines) (plain_event_text e.event) (are_plain_made n e.lines)
+
+-- the lines of a header
+
+pub agent_row : ℕ → Mode × List ℕ → List ℕ
+agent_row number agent = codes "agent " ++ decimal number ++ 32 ∷ mode_text agent.0 ++ 32 ∷ hex_word agent.1
+
+abbrev pub agent_rows : ℕ → List (Mode × List ℕ) → List (List ℕ)
+agent_rows number [] = []
+agent_rows number (agent ∷ agents) = agent_row number agent ∷ agent_rows (number + 1) agents
+
+agent_rows_text : (number : ℕ) (agents : List (Mode × List ℕ)) → agents_text number agents ≡ flat_map ended (agent_rows number agents)
+unfolding agent_row
+agent_rows_text number [] = refl
+agent_rows_text number (agent ∷ agents) = ap (λ t. agent_text number agent ++ t) (agent_rows_text (number + 1) agents)
+
+are_plain_agents : (number : ℕ) (agents : List (Mode × List ℕ)) → ArePlain (agent_rows number agents)
+unfolding agent_row
+are_plain_agents number [] = tt
+are_plain_agents number (agent ∷ agents) =
+    are_plain_cons (agent_row number agent) (agent_rows (number + 1) agents)
+    (plain_then _ _ (plain_then _ _ (plain_then _ _ (plain_word (codes "agent") 32 refl refl) (plain_decimal number)) (plain_space _ (plain_mode_text agent.0)))
+    (plain_space _ (plain_hex_word agent.1)))
+    (are_plain_agents (number + 1) agents)
+
+abbrev pub header_rows : Header → List (List ℕ)
+header_rows header =
+    codes "scfs 1" ∷ (codes "f " ++ decimal header.f) ∷ (codes "lease " ++ decimal header.lease) ∷ (codes "stale " ++ decimal header.stale)
+    ∷ (agent_rows 0 header.agents ++ codes "begin" ∷ [])
+
+row_joined : (f lease stale agents : List ℕ) → codes "scfs 1\nf " ++ f ++ codes "\nlease " ++ lease ++ codes "\nstale " ++ stale ++ 10 ∷ agents ++ codes "begin\n"
+    ≡ codes "scfs 1\nf " ++ (f ++ (codes "\nlease " ++ (lease ++ (codes "\nstale " ++ (stale ++ (10 ∷ (agents ++ codes "begin\n")))))))
+row_joined f lease stale agents = simp append_assoc
+
+rows_joined : (f lease stale agents : List ℕ) → codes "scfs 1\nf " ++ f ++ codes "\nlease " ++ lease ++ codes "\nstale " ++ stale ++ 10 ∷ agents ++ codes "begin\n"
+    ≡ (codes "scfs 1" ++ 10 ∷ []) ++ (((codes "f " ++ f) ++ 10 ∷ []) ++ (((codes "lease " ++ lease) ++ 10 ∷ []) ++ (((codes "stale " ++ stale) ++ 10 ∷ []) ++ (agents ++ codes "begin\n"))))
+rows_joined f lease stale agents =
+    let end = agents ++ codes "begin\n" in
+    let of_stale = codes "stale " ++ ((stale ++ 10 ∷ []) ++ end) in
+    let of_lease = codes "lease " ++ ((lease ++ 10 ∷ []) ++ of_stale) in
+    row_joined f lease stale agents
+    ∙ ap (λ t. codes "scfs 1\nf " ++ (f ++ (codes "\nlease " ++ (lease ++ (codes "\nstale " ++ t))))) (sym (append_assoc stale (10 ∷ []) end))
+    ∙ ap (λ t. codes "scfs 1\nf " ++ (f ++ (codes "\nlease " ++ t))) (sym (append_assoc lease (10 ∷ []) of_stale))
+    ∙ ap (λ t. codes "scfs 1\nf " ++ t) (sym (append_assoc f (10 ∷ []) of_lease))
+
+pub rows_text : (header : Header) → header_text header ≡ flat_map ended (header_rows header)
+rows_text header =
+    let rest = λ (t : List ℕ).
+    (codes "scfs 1" ++ 10 ∷ []) ++ (((codes "f " ++ decimal header.f) ++ 10 ∷ []) ++ (((codes "lease " ++ decimal header.lease) ++ 10 ∷ [])
+    ++ (((codes "stale " ++ decimal header.stale) ++ 10 ∷ []) ++ t))) in
+    rows_joined (decimal header.f) (decimal header.lease) (decimal header.stale) (agents_text 0 header.agents)
+    ∙ ap (λ t. rest (t ++ codes "begin\n")) (agent_rows_text 0 header.agents) ∙ ap rest (sym (flat_map-append ended (agent_rows 0 header.agents) (codes "begin" ∷ [])))
+
+pub are_plain_rows : (header : Header) → ArePlain (header_rows header)
+are_plain_rows header =
+    let last = agent_rows 0 header.agents ++ codes "begin" ∷ [] in
+    let third = (codes "stale " ++ decimal header.stale) ∷ last in
+    let second = (codes "lease " ++ decimal header.lease) ∷ third in
+    let first = (codes "f " ++ decimal header.f) ∷ second in
+    are_plain_cons (codes "scfs 1") first (plain_word (codes "scfs ") 49 refl refl)
+    (are_plain_cons (codes "f " ++ decimal header.f) second (plain_then _ _ (plain_word (codes "f") 32 refl refl) (plain_decimal header.f))
+    (are_plain_cons (codes "lease " ++ decimal header.lease) third (plain_then _ _ (plain_word (codes "lease") 32 refl refl) (plain_decimal header.lease))
+    (are_plain_cons (codes "stale " ++ decimal header.stale) last (plain_then _ _ (plain_word (codes "stale") 32 refl refl) (plain_decimal header.stale))
+    (are_plain_then (agent_rows 0 header.agents) (codes "begin" ∷ []) (are_plain_agents 0 header.agents)
+    (are_plain_cons (codes "begin") [] (plain_word (codes "begi") 110 refl refl) tt)))))

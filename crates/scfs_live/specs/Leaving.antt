@@ -1,24 +1,13 @@
 -- What a stop leaves of a journal, whatever the byte at which it stops.
-use Rattle.std.specs.Prelude.{◌≡◌, ◌≢◌, ℕ, List, [], ◌∷◌, ◌++◌, false, None}
+use Rattle.std.specs.Prelude.{◌≡◌, ℕ, List, ◌++◌, None}
 use Rattle.scfs_schedule.specs.Holding.{is_unfinished}
 use Rattle.scfs_schedule.specs.declared.types.Header.{Header}
 use Rattle.scfs_model.specs.History.{History}
-use Rattle.scfs_live.specs.Finding.{is_left_out}
 use Rattle.scfs_live.specs.GoingOn.{AreDone, GoesOnBehind, awaited_lines, journal_lines, kept_lines}
 use Rattle.scfs_live.specs.Journal.{pieces_of}
 use Rattle.scfs_live.specs.Keeping.{missing, whole_lines}
 use Rattle.scfs_live.specs.Reopened.{old_lines}
 use Rattle.scfs_live.specs.Reopening.{Walk}
-
--- bytes of which none is 0a
-abbrev pub HoldsNoEnd : List ℕ → Type 0
-HoldsNoEnd [] = Unit {0}
-HoldsNoEnd (byte ∷ bytes) = (byte ≢ 10) × HoldsNoEnd bytes
-
--- each line holds no byte 0a, and does not end with `~`
-abbrev pub ArePlain : List (List ℕ) → Type 0
-ArePlain [] = Unit {0}
-ArePlain (line ∷ lines) = HoldsNoEnd line × (is_left_out line ≡ false) × ArePlain lines
 
 -- what is left of the journal of a history: the whole lines that are not left out are the first of its lines
 abbrev pub IsLeft : Header → History → (text : List ℕ) → Type 0
@@ -34,7 +23,7 @@ LeftJournalsGoOn =
 -- it: then it is left of the journal with these events.
 abbrev pub StopsLeaveJournals : Type 0
 StopsLeaveJournals =
-    (header : Header) (place : Walk) (new : History) (old front back : List ℕ) → ArePlain (journal_lines header (new ++ place.past))
+    (header : Header) (place : Walk) (new : History) (old front back : List ℕ)
     → kept_lines (whole_lines old) ++ awaited_lines place.awaited ≡ journal_lines header place.past
     → missing (is_unfinished old) place.awaited ++ pieces_of new place.past ≡ front ++ back
     → IsLeft header (new ++ place.past) (old ++ front)
