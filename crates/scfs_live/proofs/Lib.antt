@@ -1,3 +1,4 @@
+pub mod DoneLemmas
 pub mod EdgeLemmas
 pub mod FarLemmas
 pub mod GoingOnLemmas

@@ -48,3 +48,7 @@ abbrev pub FirstLinesGoOn : Type 0
 FirstLinesGoOn =
     (header : Header) (past : History) (lines later : List (List ℕ)) → AreDone header past → journal_lines header past ≡ kept_lines lines ++ later
     → GoesOnBehind header past lines
+
+-- so it is of the events of lines that were run again
+abbrev pub WalkedAreDone : Type 0
+WalkedAreDone = (header : Header) (lines : List (List ℕ)) (place : Walk) → Walks header (unwalked header) lines place → AreDone header place.past

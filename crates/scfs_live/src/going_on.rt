@@ -1,5 +1,6 @@
 //! What holds of every journal that was left; the functions only carry the laws.
 
+ghost use Rattle.scfs_live.specs.GoingOn.{WalkedAreDone};
 ghost use Rattle.scfs_live.specs.Leaving.{LeftJournalsGoOn, StopsLeaveJournals};
 
 /// What is left of the journal of a history is run again without a stop, up to a history of the first events of that one; each kept
@@ -11,4 +12,9 @@ pub fn left_journals_go_on()
 /// Whatever front of what was to be written a stop leaves behind an old journal, it is left of the journal with the new events.
 pub fn stops_leave_journals()
     ensures { StopsLeaveJournals }
+{}
+
+/// The events of an old journal that was run again are read again from their lines, and the program can do them.
+pub fn walked_events_are_done()
+    ensures { WalkedAreDone }
 {}

@@ -14,6 +14,6 @@ mod running;
 mod writing;
 
 pub use ending::LiveEnd;
-pub use going_on::{left_journals_go_on, stops_leave_journals};
+pub use going_on::{left_journals_go_on, stops_leave_journals, walked_events_are_done};
 pub use reopening::reopen;
 pub use writing::write_all;
