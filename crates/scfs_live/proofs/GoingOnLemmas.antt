@@ -73,10 +73,10 @@ AreNext header (e ∷ next) past =
     (event_read header (event_text e.event) ≡ Ok e.event) × (is_built e.event ≡ true) × (length past < events_limit) × AreNext header next (e ∷ past)
 
 -- a place of the walk with these lines still to be kept
-abbrev at : History → (first lines : List (List ℕ)) → Walk
+abbrev pub at : History → (first lines : List (List ℕ)) → Walk
 at past first lines = record { past = past; awaited = record { header = first; lines = lines } }
 
-abbrev spaced : List (List ℕ) → List (List ℕ)
+abbrev pub spaced : List (List ℕ) → List (List ℕ)
 spaced lines = map (λ line. 32 ∷ line) lines
 
 -- the lines are run again from a place, behind these kept lines
@@ -107,7 +107,7 @@ Further header lines later =
     → kept_lines lines ++ later ≡ (first ++ spaced waiting) ++ next_lines next past → kept ++ (first ++ spaced waiting) ≡ journal_lines header past
     → Goes header past first waiting lines kept next
 
-spaced-map : (n : ℕ) (lines : List Line) → spaced (map (made_line n) lines) ≡ map (λ line. 32 ∷ made_line n line) lines
+pub spaced-map : (n : ℕ) (lines : List Line) → spaced (map (made_line n) lines) ≡ map (λ line. 32 ∷ made_line n line) lines
 spaced-map n [] = refl
 spaced-map n (line ∷ lines) = ap (λ ls. (32 ∷ made_line n line) ∷ ls) (spaced-map n lines)
 

@@ -161,7 +161,7 @@ by_mark : (line : List ℕ) (first others : List (List ℕ)) (t : Bool) → cond
 by_mark line first others true = refl
 by_mark line first others false = refl
 
-kept_lines-append : (first others : List (List ℕ)) → kept_lines (first ++ others) ≡ kept_lines first ++ kept_lines others
+pub kept_lines-append : (first others : List (List ℕ)) → kept_lines (first ++ others) ≡ kept_lines first ++ kept_lines others
 kept_lines-append [] others = refl
 kept_lines-append (line ∷ first) others =
     ap (λ ls. cond (is_left_out line) ls (line ∷ ls)) (kept_lines-append first others) ∙ by_mark line (kept_lines first) (kept_lines others) (is_left_out line)

@@ -3,6 +3,7 @@ pub mod EdgeLemmas
 pub mod FarLemmas
 pub mod GoingOnLemmas
 pub mod KeepingLemmas
+pub mod KeptLemmas
 pub mod LeavingLemmas
 pub mod LineLemmas
 pub mod PlainLemmas

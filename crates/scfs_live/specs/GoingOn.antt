@@ -52,3 +52,9 @@ FirstLinesGoOn =
 -- so it is of the events of lines that were run again
 abbrev pub WalkedAreDone : Type 0
 WalkedAreDone = (header : Header) (lines : List (List ℕ)) (place : Walk) → Walks header (unwalked header) lines place → AreDone header place.past
+
+-- the lines of an old journal that was run again are those of its history: the ones that are not left out, and those still to be kept
+abbrev pub WalkedAreKept : Type 0
+WalkedAreKept =
+    (header : Header) (lines : List (List ℕ)) (place : Walk) → Walks header (unwalked header) lines place
+    → kept_lines lines ++ awaited_lines place.awaited ≡ journal_lines header place.past

@@ -1,6 +1,6 @@
 //! What holds of every journal that was left; the functions only carry the laws.
 
-ghost use Rattle.scfs_live.specs.GoingOn.{WalkedAreDone};
+ghost use Rattle.scfs_live.specs.GoingOn.{WalkedAreDone, WalkedAreKept};
 ghost use Rattle.scfs_live.specs.Leaving.{LeftJournalsGoOn, StopsLeaveJournals};
 
 /// What is left of the journal of a history is run again without a stop, up to a history of the first events of that one; each kept
@@ -17,4 +17,10 @@ pub fn stops_leave_journals()
 /// The events of an old journal that was run again are read again from their lines, and the program can do them.
 pub fn walked_events_are_done()
     ensures { WalkedAreDone }
+{}
+
+/// The lines of an old journal that was run again are those of its history: the ones that are not left out, with those still to be kept
+/// behind them.
+pub fn walked_lines_are_kept()
+    ensures { WalkedAreKept }
 {}

@@ -14,6 +14,8 @@ mod running;
 mod writing;
 
 pub use ending::LiveEnd;
-pub use going_on::{left_journals_go_on, stops_leave_journals, walked_events_are_done};
+pub use going_on::{
+    left_journals_go_on, stops_leave_journals, walked_events_are_done, walked_lines_are_kept,
+};
 pub use reopening::reopen;
 pub use writing::write_all;
