@@ -9,4 +9,5 @@ pub mod LineLemmas
 pub mod PlainLemmas
 mod RowReopened
 pub mod SplitLemmas
+pub mod StoppedLemmas
 pub mod WalkLemmas

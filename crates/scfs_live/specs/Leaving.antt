@@ -7,7 +7,7 @@ use Rattle.scfs_live.specs.GoingOn.{AreDone, GoesOnBehind, awaited_lines, journa
 use Rattle.scfs_live.specs.Journal.{pieces_of}
 use Rattle.scfs_live.specs.Keeping.{missing, whole_lines}
 use Rattle.scfs_live.specs.Reopened.{old_lines}
-use Rattle.scfs_live.specs.Reopening.{Walk}
+use Rattle.scfs_live.specs.Reopening.{Walk, Walks, unwalked}
 
 -- what is left of the journal of a history: the whole lines that are not left out are the first of its lines
 abbrev pub IsLeft : Header → History → (text : List ℕ) → Type 0
@@ -27,3 +27,12 @@ StopsLeaveJournals =
     → kept_lines (whole_lines old) ++ awaited_lines place.awaited ≡ journal_lines header place.past
     → missing (is_unfinished old) place.awaited ++ pieces_of new place.past ≡ front ++ back
     → IsLeft header (new ++ place.past) (old ++ front)
+
+-- A call ran an old journal again to a place, and wrote any front of what was missing and of the pieces of new events: what it leaves is run
+-- again without a stop, within the limits, up to a history of the first of all these events.
+abbrev pub StoppedCallsGoOn : Type 0
+StoppedCallsGoOn =
+    (header : Header) (place : Walk) (new : History) (old front back : List ℕ) → (old_lines old).passed ≡ None
+    → Walks header (unwalked header) (old_lines old).lines place → AreDone header (new ++ place.past)
+    → missing (is_unfinished old) place.awaited ++ pieces_of new place.past ≡ front ++ back → (old_lines (old ++ front)).passed ≡ None
+    → GoesOnBehind header (new ++ place.past) (old_lines (old ++ front)).lines

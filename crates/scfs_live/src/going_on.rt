@@ -1,7 +1,7 @@
 //! What holds of every journal that was left; the functions only carry the laws.
 
 ghost use Rattle.scfs_live.specs.GoingOn.{WalkedAreDone, WalkedAreKept};
-ghost use Rattle.scfs_live.specs.Leaving.{LeftJournalsGoOn, StopsLeaveJournals};
+ghost use Rattle.scfs_live.specs.Leaving.{LeftJournalsGoOn, StoppedCallsGoOn, StopsLeaveJournals};
 
 /// What is left of the journal of a history is run again without a stop, up to a history of the first events of that one; each kept
 /// line is the one that was made.
@@ -23,4 +23,10 @@ pub fn walked_events_are_done()
 /// behind them.
 pub fn walked_lines_are_kept()
     ensures { WalkedAreKept }
+{}
+
+/// What a call leaves behind an old journal that it ran again, whatever the byte at which it is stopped, is run again without a stop,
+/// up to a history of the first events.
+pub fn stopped_calls_go_on()
+    ensures { StoppedCallsGoOn }
 {}

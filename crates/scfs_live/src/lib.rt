@@ -15,7 +15,8 @@ mod writing;
 
 pub use ending::LiveEnd;
 pub use going_on::{
-    left_journals_go_on, stops_leave_journals, walked_events_are_done, walked_lines_are_kept,
+    left_journals_go_on, stopped_calls_go_on, stops_leave_journals, walked_events_are_done,
+    walked_lines_are_kept,
 };
 pub use reopening::reopen;
 pub use writing::write_all;
