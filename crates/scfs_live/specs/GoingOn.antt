@@ -46,12 +46,13 @@ pub record GoesOnBehind (header : Header) (past : History) (lines : List (List �
 -- so it is of all lines of which those that are not left out are the first of the journal of a history
 abbrev pub FirstLinesGoOn : Type 0
 FirstLinesGoOn =
-    (header : Header) (past : History) (lines later : List (List ℕ)) → AreDone header past → journal_lines header past ≡ kept_lines lines ++ later
-    → GoesOnBehind header past lines
+    (header : Header) (past : History) (lines later : List (List ℕ)) → AreDone header past
+    → journal_lines header past ≡ kept_lines lines ++ later → GoesOnBehind header past lines
 
 -- so it is of the events of lines that were run again
 abbrev pub WalkedAreDone : Type 0
-WalkedAreDone = (header : Header) (lines : List (List ℕ)) (place : Walk) → Walks header (unwalked header) lines place → AreDone header place.past
+WalkedAreDone =
+    (header : Header) (lines : List (List ℕ)) (place : Walk) → Walks header (unwalked header) lines place → AreDone header place.past
 
 -- the lines of an old journal that was run again are those of its history: the ones that are not left out, and those still to be kept
 abbrev pub WalkedAreKept : Type 0

@@ -56,15 +56,16 @@ EndsAgain allows header taken end = EndsLines allows header taken end
 
 -- The old journal was read to its end, and all of it was run again, to this place: these bytes were taken, where the source tells; a read
 -- gave the end, and nothing is left.
-pub record ReadsAll (allows : RankFacts → ℕ → Type 0) (header : Header) (left left' : Option (List ℕ)) (ends_then ends_now : ℕ) (taken : List ℕ) (place : Walk) : Type 0 where
+pub record ReadsAll (allows : RankFacts → ℕ → Type 0) (header : Header) (left left' : Option (List ℕ)) (ends_then ends_now : ℕ)
+    (taken : List ℕ) (place : Walk) : Type 0 where
   pub takes : Takes left left' taken
   pub ended : Rose ends_then ends_now
   pub nothing_left : IfSome left' (λ rest. rest ≡ [])
   pub runs : RunsAll allows header taken place
 
 -- a world was reopened: it stands for the history of the old journal, all of which was run again, and what was missing was written
-pub record Reopens (allows : RankFacts → ℕ → Type 0) (header : Header) (left left' : Option (List ℕ)) (ends_then ends_now : ℕ) (before after : Option (List ℕ))
-    (world : WorldState) : Type 0 where
+pub record Reopens (allows : RankFacts → ℕ → Type 0) (header : Header) (left left' : Option (List ℕ)) (ends_then ends_now : ℕ)
+    (before after : Option (List ℕ)) (world : WorldState) : Type 0 where
   pub taken : List ℕ
   pub place : Walk
   pub reads : ReadsAll allows header left left' ends_then ends_now taken place
@@ -72,21 +73,24 @@ pub record Reopens (allows : RankFacts → ℕ → Type 0) (header : Header) (le
   pub wrote : Puts before after (missing (is_unfinished taken) place.awaited)
 
 -- writing failed: all of the old journal was run again, and of what was missing not all was written
-pub record Unwritten (allows : RankFacts → ℕ → Type 0) (header : Header) (left left' : Option (List ℕ)) (ends_then ends_now : ℕ) (before after : Option (List ℕ)) : Type 0 where
+pub record Unwritten (allows : RankFacts → ℕ → Type 0) (header : Header) (left left' : Option (List ℕ)) (ends_then ends_now : ℕ)
+    (before after : Option (List ℕ)) : Type 0 where
   pub taken : List ℕ
   pub place : Walk
   pub reads : ReadsAll allows header left left' ends_then ends_now taken place
   pub wrote : GetsPart before after (missing (is_unfinished taken) place.awaited)
 
 -- the running again ended before, and nothing was written
-pub record Unread (allows : RankFacts → ℕ → Type 0) (header : Header) (left left' before after : Option (List ℕ)) (end : LiveEnd) : Type 0 where
+pub record Unread (allows : RankFacts → ℕ → Type 0) (header : Header) (left left' before after : Option (List ℕ))
+    (end : LiveEnd) : Type 0 where
   pub taken : List ℕ
   pub takes : Takes left left' taken
   pub ends : EndsAgain allows header taken end
   pub nothing : after ≡ before
 
 -- how reopening ended with no world
-abbrev pub EndsReopening : (allows : RankFacts → ℕ → Type 0) → Header → (left left' : Option (List ℕ)) → (ends_then ends_now : ℕ) → (before after : Option (List ℕ)) → LiveEnd → Type 0
+abbrev pub EndsReopening : (allows : RankFacts → ℕ → Type 0) → Header → (left left' : Option (List ℕ)) → (ends_then ends_now : ℕ)
+    → (before after : Option (List ℕ)) → LiveEnd → Type 0
 EndsReopening allows header left left' ends_then ends_now before after (ends.WriteFault whichs.Journal) =
     Unwritten allows header left left' ends_then ends_now before after
 EndsReopening allows header left left' ends_then ends_now before after end = Unread allows header left left' before after end

@@ -32,7 +32,8 @@ pub record IsSoFar (allows : RankFacts → ℕ → Type 0) (header : Header) (ta
   pub at : IsAt allows header place running
 
 -- an old journal was read to its end and run again
-pub record Rereads (allows : RankFacts → ℕ → Type 0) (header : Header) (left left' : Option (List ℕ)) (ends_then ends_now : ℕ) (reread : Reread) : Type 0 where
+pub record Rereads (allows : RankFacts → ℕ → Type 0) (header : Header) (left left' : Option (List ℕ)) (ends_then ends_now : ℕ)
+    (reread : Reread) : Type 0 where
   pub taken : List ℕ
   pub place : Walk
   pub reads : ReadsAll allows header left left' ends_then ends_now taken place
