@@ -286,3 +286,16 @@ fn reads_and_writes_that_fail(rt: HostRuntime) -> Result<(), Fail> {
     };
     expect(&rt, rest, "write fault Journal", "~\n")
 }
+
+#[test]
+fn a_line_that_is_too_long(rt: HostRuntime) -> Result<(), Fail> {
+    let mut long = String::new(rt.alloc());
+    for _ in 0..1_048_577 {
+        long.push_str("x")?;
+    }
+    let run = Old {
+        parts: &[HEADER, "call 0 create /a\n", long.as_str()],
+        ..EMPTY
+    };
+    expect(&rt, run, "too large Line", "")
+}
