@@ -2,10 +2,6 @@ ghost use Rattle.std.specs.Prelude.{IfOk, IsTrue};
 ghost use Rattle.scfs_base.specs.declared.cloud.CloudAnswer.TheVariants as CloudAnswer;
 ghost use Rattle.scfs_cloud.specs.Cutting.{suits};
 ghost use Rattle.scfs_cloud.specs.Asking.{Asks, IsCounted, IsLogged, IsStored, said, same};
-<<<<<<< HEAD
-ghost use Rattle.scfs_cloud.specs.Kinds.{IsGiven, IsOfKind};
-=======
->>>>>>> 91e4c65726a509f421dc1c0535168e6613be0b90
 
 use crate::cutting::cut_answer;
 use crate::{Cloud, CloudFault};
@@ -17,10 +13,6 @@ fn call<C: Cloud>(cloud: &mut C, request: &CloudRequest) -> Result<CloudAnswer, 
     ensures counted { IsCounted (C.faults cloud.old) (C.faults cloud.new) (said same result) }
     ensures logged { IsLogged (C.log cloud.old) (C.log cloud.new) request.now (said same result) }
     ensures stored { IsStored (C.store cloud.old) (C.store cloud.new) request.now (said same result) }
-<<<<<<< HEAD
-    ensures kind { IfOk result (IsOfKind request.now) }
-=======
->>>>>>> 91e4c65726a509f421dc1c0535168e6613be0b90
     ensures suited { IfOk result (λ answer. IsTrue (suits request.now answer)) }
 {
     match request {
