@@ -28,7 +28,7 @@ module _ (allows : RankFacts → ℕ → Type 0) (header : Header) (past : Histo
   is_heard e same = subst (IsHeard next header past before now) (sym same) it
 
   played_heard : (e : Entry) → Played allows header past (λ given. given ≡ event) e → Played allows header past (IsHeard next header past before now) e
-  played_heard e played = record { it = is_heard e.event played.it; plays = played.plays }
+  played_heard e played = record { it = is_heard e.event played.it; few = played.few; plays = played.plays }
 
   pub advanced_by : (j j' o o' : Option (List ℕ)) (result : Result WorldState LiveEnd) → Turned allows header past (λ given. given ≡ event) j j' o o' result
       → Advanced allows header past next before now j j' o o' result

@@ -1,6 +1,7 @@
 -- A drive that is given no event.
-use Rattle.std.proofs.Common.{◌≡◌, ℕ, List, ap, ◌∙◌, sym, subst, Option, None, Result, Ok, Err}
+use Rattle.std.proofs.Common.{arith, ◌≤◌, ◌≡◌, ℕ, List, ap, ◌∙◌, sym, subst, Option, None, Result, Ok, Err}
 use Rattle.std.specs.Prelude.{IfErr, IfOk}
+use Rattle.scfs_base.specs.Limits.{events_limit}
 use Rattle.scfs_policy.specs.declared.rank.RankFacts.{RankFacts}
 use Rattle.scfs_schedule.specs.declared.types.Event.{Event}
 use Rattle.scfs_schedule.specs.declared.types.Header.{Header}
@@ -36,9 +37,9 @@ module _ (allows : RankFacts → ℕ → Type 0) (world : WorldState) (given : O
       (going_none allows header None past world j o clouds stands plays)))
   none_begun (Err end) is = tt
 
-  pub none_ended : (result : Result (WorldState × Driver) LiveEnd) → IfErr result (λ end. end ≡ ends.Memory) → IfErr result (λ end. (header : Header) (past : History)
+  pub none_ended : world.events ≤ events_limit → (result : Result (WorldState × Driver) LiveEnd) → IfErr result (λ end. end ≡ ends.Memory) → IfErr result (λ end. (header : Header) (past : History)
       (clouds : List Told) → Stands world header past → IsPlayed allows header past → Ends allows end header given past j j o o clouds clouds)
-  none_ended (Ok begun) is = tt
-  none_ended (Err end) is = λ header past clouds stands plays.
+  none_ended room (Ok begun) is = tt
+  none_ended room (Err end) is = λ header past clouds stands plays.
       subst (λ (e : Option Event). Ends allows end header e past j j o o clouds clouds) (sym none)
-      (subst (λ (e : LiveEnd). Ends allows e header None past j j o o clouds clouds) (sym is) (none_wanting allows header past plays j o clouds))
+      (subst (λ (e : LiveEnd). Ends allows e header None past j j o o clouds clouds) (sym is) (none_wanting allows header past plays j o clouds (omega (arith, stands.count, room))))

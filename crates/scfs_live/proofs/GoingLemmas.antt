@@ -1,5 +1,5 @@
 -- A drive so far, and one event more.
-use Rattle.std.proofs.Common.{◌≡◌, ℕ, List, [], ◌∷◌, ◌++◌, refl, sym, subst, Option, Some, None, Result, Ok, Err, length}
+use Rattle.std.proofs.Common.{arith, ◌≤◌, ◌≡◌, ℕ, List, [], ◌∷◌, ◌++◌, refl, sym, subst, Option, Some, None, Result, Ok, Err, length}
 use Rattle.scfs_base.specs.Limits.{events_limit}
 use Rattle.scfs_base.specs.declared.cloud.CloudAnswer.{CloudAnswer}
 use Rattle.scfs_base.specs.declared.cloud.CloudAnswer.TheVariants as answers
@@ -113,12 +113,13 @@ module _ (allows : RankFacts → ℕ → Type 0) (header : Header) (given : Opti
       asked = asked_next e played.it;
     }
 
-    pub came_to : (end : LiveEnd) → Advanced allows header (new ++ past) next mid now j1 j2 o1 o2 (Err end)
+    pub came_to : length (new ++ past) ≤ events_limit → (end : LiveEnd) → Advanced allows header (new ++ past) next mid now j1 j2 o1 o2 (Err end)
         → Ends allows end header given past j j2 o o2 before now
-    came_to (ends.WriteFault whiches.Journal) (e, played, piece, lines) = record {
+    came_to few (ends.WriteFault whiches.Journal) (e, played, piece, lines) = record {
       new = e ∷ new;
       after = after;
       drove = drove_next e played;
+      few = omega (arith, played.few);
       due = tt;
       wrote = (
         then_part j j1 j2 (pieces_of new past) (entry_piece (new ++ past) e) wrote.journal piece,
@@ -126,10 +127,11 @@ module _ (allows : RankFacts → ℕ → Type 0) (header : Header) (given : Opti
       );
       asked = asked_next e played.it;
     }
-    came_to (ends.WriteFault whiches.Out) (e, played, piece, lines) = record {
+    came_to few (ends.WriteFault whiches.Out) (e, played, piece, lines) = record {
       new = e ∷ new;
       after = after;
       drove = drove_next e played;
+      few = omega (arith, played.few);
       due = tt;
       wrote = record {
         journal = puts_then j j1 j2 (pieces_of new past) (entry_piece (new ++ past) e) wrote.journal piece;
@@ -137,31 +139,34 @@ module _ (allows : RankFacts → ℕ → Type 0) (header : Header) (given : Opti
       };
       asked = asked_next e played.it;
     }
-    came_to (ends.TooLarge whiches.Events) (full, same, none) = record {
+    came_to few (ends.TooLarge whiches.Events) (full, same, none) = record {
       new = new;
       after = driver;
       drove = drove;
+      few = few;
       due = (full, some_event next due);
       wrote = wrote_no_more j j1 j2 o o1 o2 new past wrote none;
       asked = subst (λ (l : List Told). AreAsked (under header) new past before l) (sym same) asked;
     }
-    came_to (ends.TooLarge whiches.Objects) (event, it, large, none) = record {
+    came_to few (ends.TooLarge whiches.Objects) (event, it, large, none) = record {
       new = new;
       after = driver;
       drove = drove;
+      few = few;
       due = record { event = event; beyond = after; next = comes event it; so = large };
       wrote = wrote_no_more j j1 j2 o o1 o2 new past wrote none;
       asked = asked_besides next (Ok (answer_in event)) it.heard;
     }
-    came_to ends.Memory (result, heard, none) = record {
+    came_to few ends.Memory (result, heard, none) = record {
       new = new;
       after = driver;
       drove = drove;
+      few = few;
       due = tt;
       wrote = wrote_no_more j j1 j2 o o1 o2 new past wrote none;
       asked = asked_besides next result heard;
     }
-    came_to end advanced = absurd advanced
+    came_to few end advanced = absurd advanced
 
 -- the event that was given comes first
 module _ (allows : RankFacts → ℕ → Type 0) (header : Header) (past : History) (event : Event) (script : IsScriptEvent event)
@@ -184,29 +189,30 @@ module _ (allows : RankFacts → ℕ → Type 0) (header : Header) (past : Histo
       (script_quiet event script) j j j' o o o' (wrote_none j o past) clouds clouds clouds (are_asked_none (under header) past clouds) world
       (first_advanced (Ok world) turned))
 
-  first_came_to : (end : LiveEnd) → Advanced allows header past (Does event) clouds clouds j j' o o' (Err end)
+  first_came_to : length past ≤ events_limit → (end : LiveEnd) → Advanced allows header past (Does event) clouds clouds j j' o o' (Err end)
       → Ends allows end header (Some event) past j j' o o' clouds clouds
-  first_came_to end advanced =
+  first_came_to few end advanced =
       came_to allows header (Some event) past [] before_it behind_it (Does event) (drove_none allows header (Some event) past plays) refl
-      (script_quiet event script) j j j' o o o' (wrote_none j o past) clouds clouds clouds (are_asked_none (under header) past clouds) end advanced
+      (script_quiet event script) j j j' o o o' (wrote_none j o past) clouds clouds clouds (are_asked_none (under header) past clouds) few end advanced
 
-  pub first_ended : (end : LiveEnd) → Turned allows header past (λ given. given ≡ event) j j' o o' (Err end)
+  pub first_ended : length past ≤ events_limit → (end : LiveEnd) → Turned allows header past (λ given. given ≡ event) j j' o o' (Err end)
       → Ends allows end header (Some event) past j j' o o' clouds clouds
-  first_ended end turned = first_came_to end (first_advanced (Err end) turned)
+  first_ended few end turned = first_came_to few end (first_advanced (Err end) turned)
 
   pub first_full : length past ≡ events_limit → WroteNothing j j' o o' → Ends allows (ends.TooLarge whiches.Events) header (Some event) past j j' o o' clouds clouds
-  first_full full none = first_came_to (ends.TooLarge whiches.Events) (full, refl, none)
+  first_full full none = first_came_to (omega (arith, full)) (ends.TooLarge whiches.Events) (full, refl, none)
 
-  pub first_wanting : WroteNothing j j' o o' → Ends allows ends.Memory header (Some event) past j j' o o' clouds clouds
-  first_wanting none = first_came_to ends.Memory (Ok answers.Fail, refl, none)
+  pub first_wanting : length past ≤ events_limit → WroteNothing j j' o o' → Ends allows ends.Memory header (Some event) past j j' o o' clouds clouds
+  first_wanting few none = first_came_to few ends.Memory (Ok answers.Fail, refl, none)
 
 -- where none was given, memory was wanting
 pub none_wanting : (allows : RankFacts → ℕ → Type 0) (header : Header) (past : History) (plays : IsPlayed allows header past) (j o : Option (List ℕ))
-    (clouds : List Told) → Ends allows ends.Memory header None past j j o o clouds clouds
-none_wanting allows header past plays j o clouds = record {
+    (clouds : List Told) → length past ≤ events_limit → Ends allows ends.Memory header None past j j o o clouds clouds
+none_wanting allows header past plays j o clouds few = record {
   new = [];
   after = begins_with (under header) None;
   drove = drove_none allows header None past plays;
+  few = few;
   due = tt;
   wrote = wrote_none j o past;
   asked = are_asked_no_more (under header) [] past clouds clouds (are_asked_none (under header) past clouds);

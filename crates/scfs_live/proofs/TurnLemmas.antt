@@ -2,7 +2,7 @@
 use Rattle.std.proofs.Common.{◌≡◌, ◌<◌, ◌^◌, ℕ, ◌+◌, List, ◌∷◌, ◌++◌, ap, ◌∙◌, sym, subst, Option, Result, Ok, Err, length, arith}
 use Rattle.std.specs.Prelude.{IfOk}
 use Rattle.std.specs.List.{flat_map}
-use Rattle.scfs_base.specs.Limits.{carried_limit}
+use Rattle.scfs_base.specs.Limits.{carried_limit, events_limit}
 use Rattle.scfs_policy.specs.declared.rank.RankFacts.{RankFacts}
 use Rattle.scfs_schedule.specs.Text.{event_text, numbered}
 use Rattle.scfs_schedule.specs.declared.types.Event.{Event}
@@ -34,6 +34,7 @@ pub record Did (allows : RankFacts → ℕ → Type 0) (header : Header) (past :
   pub said : entry.lines ≡ lines
   pub stands : Stands world header (entry ∷ past)
   pub plays : IsPlayed allows header (entry ∷ past)
+  pub few : length past < events_limit
 
 pub nothing_written : (j o : Option (List ℕ)) → WroteNothing j j o o
 nothing_written j o = record { journal = puts_nothing j; out = puts_nothing o }
@@ -55,7 +56,7 @@ module _ (allows : RankFacts → ℕ → Type 0) (header : Header) (past : Histo
       ∙ ap (λ (ls : List Line). flat_map (numbered (length past + 1)) ls) (sym did.said)
 
   played_entry : Played allows header past (λ given. given ≡ event) did.entry
-  played_entry = record { it = did.same; plays = did.plays }
+  played_entry = record { it = did.same; few = did.few; plays = did.plays }
 
   by_result : (j j' o o' : Option (List ℕ)) (result : Result WorldState LiveEnd)
       → Writes j j' o o' (entry_piece past did.entry) (entry_lines past did.entry) result → IfOk result (λ next. next ≡ world)

@@ -15,7 +15,7 @@ returns-then-events-eq-EVENTS_LIMIT-clause-ended g c = λ header past clouds sta
 
 pub returns-in-Err-clause-ended : goal.returns-in-Err-clause-ended
 returns-in-Err-clause-ended g c = λ header past clouds stands played.
-    first_wanting _ header past c.args.event.now c.requires.event.script played _ _ _ _ clouds
+    first_wanting _ header past c.args.event.now c.requires.event.script played _ _ _ _ clouds (omega (arith, stands.count, c.requires.room))
     (nothing_written (g.J.Sink.written c.args.journal.now) (g.O.Sink.written c.args.out.now))
 
 pub returns-in-Ok-turn-clause-begun : goal.returns-in-Ok-turn-clause-begun
@@ -33,4 +33,4 @@ returns-in-Ok-turn-clause-driver g c =
 
 pub returns-in-Err-turn-clause-ended : goal.returns-in-Err-turn-clause-ended
 returns-in-Err-turn-clause-ended g c = λ header past clouds stands played.
-    first_ended _ header past c.args.event.now c.requires.event.script played _ _ _ _ clouds c.in-Err-turn.end (c.in-Err-turn.ensures.turned header past stands played)
+    first_ended _ header past c.args.event.now c.requires.event.script played _ _ _ _ clouds (omega (arith, stands.count, c.requires.room)) c.in-Err-turn.end (c.in-Err-turn.ensures.turned header past stands played)

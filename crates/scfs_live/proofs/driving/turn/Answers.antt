@@ -8,7 +8,7 @@ returns-in-Ok-clause-turned g c = λ header past stands played.
     let allows : RankFacts → ℕ → Type 0 = λ facts rank. g.R.Fn.post c.args.rank.now (facts, tt) rank in
     let on = c.in-Ok.ensures.plays header past stands played in
     turned_by allows header past c.args.event.now c.in-Ok.stepped.world c.in-Ok.stepped.lines
-    (record { entry = on.0; same = on.1; said = on.2; stands = on.3; plays = on.4 })
+    (record { entry = on.0; same = on.1; said = on.2; stands = on.3; plays = on.4; few = omega (arith, stands.count, c.requires.room) })
     _ _ _ _ c.write_event.result c.write_event.ensures.writes c.write_event.ensures.world
 
 pub returns-in-TooLarge-clause-turned : goal.returns-in-TooLarge-clause-turned
