@@ -11,7 +11,7 @@ use Rattle.std.specs.declared.cmp.Ordering.TheVariants.{Less, Equal, Greater}
 use Rattle.std.specs.Cmp.Lexicographic.{slice_cmp}
 use Rattle.std.proofs.lemmas.Cmp.{nat_list_cmp_total}
 use Rattle.std.proofs.lemmas.List.{take_all, take-take}
-use Rattle.std.proofs.lemmas.List.Elements.{All-head, All-tail, All-map, All-drop, All-filter, All-from_recursion, recursion_from_All}
+use Rattle.std.proofs.lemmas.List.Elements.{All-head, All-tail, All-drop, All-filter, All-from_recursion, recursion_from_All}
 use Rattle.std.proofs.lemmas.List.Kept.{IsStrictlySortedBy-filter}
 use Rattle.std.proofs.lemmas.Map.Views.{All-keys-insert_entry, All-map-remove_entry}
 use Rattle.scfs_base.specs.Limits.{names_limit}
@@ -21,7 +21,7 @@ use Rattle.scfs_base.specs.declared.cloud.CloudAnswer.{CloudAnswer}
 use Rattle.scfs_base.specs.declared.cloud.CloudAnswer.TheVariants as answers
 use Rattle.scfs_net.specs.Store.{Objects, stored, with_object, without_object, names_with, last_of}
 use Rattle.scfs_net.specs.Queues.{answer_of, objects_with, objects_after, first_bytes}
-use Rattle.scfs_cloud.specs.Cutting.{placed, in_order, cut_names, cut_answer, suits, name_limit, HasShortNames}
+use Rattle.scfs_cloud.specs.Cutting.{placed, in_order, cut_names, cut_answer, suits, name_limit, HasShortNames, PutsShortName}
 use Rattle.scfs_cloud.specs.InMemory.{AreOrdered}
 use Rattle.scfs_cloud.proofs.CuttingLemmas.{NoneBelow, not_above, placed-first, last_of-all, length-last_of}
 
@@ -72,12 +72,14 @@ ordered-objects_with objects (requests.Get name limit) all = all
 ordered-objects_with objects (requests.Delete name) all = ordered_without objects name all
 ordered-objects_with objects (requests.List prefix) all = all
 
-settled_found : (objects : Objects) (request : CloudRequest) (limit : ℕ) (body : Option (List ℕ)) → objects_after objects request (first_bytes limit body) ≡ objects
+settled_found : (objects : Objects) (request : CloudRequest) (limit : ℕ) (body : Option (List ℕ))
+    → objects_after objects request (first_bytes limit body) ≡ objects
 settled_found objects request limit None = refl
 settled_found objects request limit (Some body) = refl
 
 -- settling the answer of serving is serving
-pub settled_served : (objects : Objects) (request : CloudRequest) → objects_after objects request (answer_of objects request) ≡ objects_with objects request
+pub settled_served : (objects : Objects) (request : CloudRequest)
+    → objects_after objects request (answer_of objects request) ≡ objects_with objects request
 settled_served objects (requests.Put name body) = refl
 settled_served objects (requests.Get name limit) = settled_found objects (requests.Get name limit) limit (stored objects name)
 settled_served objects (requests.Delete name) = refl
@@ -110,7 +112,8 @@ sorted-drop (suc count) [] all = all
 sorted-drop (suc count) (first ∷ names) all = sorted-drop count names all.1
 
 -- few short names in byte order are kept as they are
-cut_names-same : (names : List (List ℕ)) → All IsShort names → IsStrictlySortedBy name_cmp names → length names ≤ names_limit → cut_names names ≡ names
+cut_names-same : (names : List (List ℕ)) → All IsShort names → IsStrictlySortedBy name_cmp names
+    → length names ≤ names_limit → cut_names names ≡ names
 cut_names-same names short sorted few =
     ap (λ words. last_of names_limit (in_order words)) (uncut names short)
     ∙ ap (last_of names_limit) (in_order-same names sorted)
@@ -123,11 +126,12 @@ listed_whole objects prefix ordered short =
     let names : List (List ℕ) = names_with objects prefix in
     let spare : ℕ = length names - names_limit in
     cut_names-same (last_of names_limit names)
-    (All-drop IsShort spare names (All-filter begins IsShort (keys_of objects) (All-map IsShort (λ (entry : List ℕ × List ℕ). entry.0) objects short)))
+    (All-drop IsShort spare names (All-filter begins IsShort (keys_of objects) short))
     (sorted-drop spare names (IsStrictlySortedBy-filter name_cmp begins (keys_of objects) ordered))
     (length-last_of names_limit names)
 
-found_whole : (name : List ℕ) (limit : ℕ) (body : Option (List ℕ)) → cut_answer (requests.Get name limit) (first_bytes limit body) ≡ first_bytes limit body
+found_whole : (name : List ℕ) (limit : ℕ) (body : Option (List ℕ))
+    → cut_answer (requests.Get name limit) (first_bytes limit body) ≡ first_bytes limit body
 found_whole name limit None = refl
 found_whole name limit (Some body) = ap answers.Bytes (take-take limit limit body (omega arith))
 
@@ -163,3 +167,12 @@ pub whole_served : (objects : Objects) (request : CloudRequest) (answer : CloudA
     → answer ≡ answer_of objects request → HasShortNames objects → cut_answer request answer ≡ answer
 whole_served objects request answer ordered serves short =
     ap (cut_answer request) serves ∙ served_whole objects request ordered short ∙ sym serves
+
+-- serving leaves short names short
+pub short_served : (objects : Objects) (request : CloudRequest) → HasShortNames objects → PutsShortName request
+    → HasShortNames (objects_with objects request)
+short_served objects (requests.Put name body) short puts = All-keys-insert_entry name_cmp name body IsShort objects short puts
+short_served objects (requests.Get name limit) short puts = short
+short_served objects (requests.Delete name) short puts =
+    All-map-remove_entry (is_at (name_cmp name)) (λ entry. entry.0) IsShort objects short
+short_served objects (requests.List prefix) short puts = short

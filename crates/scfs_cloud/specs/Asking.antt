@@ -82,7 +82,8 @@ Stores request (Some objects) after (Ok given) =
 Stores request (Some objects) after (Err e) = ServedAtMost objects after request
 
 -- a cloud was asked this: what it says of its log, its store and its count of faults before and after, and what came of it
-pub record Asks (request : CloudRequest) (old_log new_log : Option (List Exchange)) (old_store new_store : Option Objects) (old_faults new_faults : ℕ) (result : Result CloudAnswer Memory) : Type 0 where
+pub record Asks (request : CloudRequest) (old_log new_log : Option (List Exchange)) (old_store new_store : Option Objects)
+    (old_faults new_faults : ℕ) (result : Result CloudAnswer Memory) : Type 0 where
   pub counted : old_faults ≤ new_faults
   pub failed : result ≡ Ok answers.Fail → Rose old_faults new_faults
   pub kept : IfOk result (IsKept request)

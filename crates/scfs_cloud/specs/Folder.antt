@@ -1,7 +1,12 @@
 -- Objects as files of a folder.
-use Rattle.std.specs.Prelude.{◌==◌, ◌||◌, ◌&&◌, ℕ, List, map, Bool, Option, Some, None, if◌then◌else◌}
+use Rattle.std.specs.Prelude.{◌==◌, ◌||◌, ◌&&◌, ℕ, List, map, Bool, Option, Some, None, IsTrue, nat_eq, if◌then◌else◌}
 use Rattle.std.specs.Char.{is_ascii_digit, is_ascii_lowercase}
-use Rattle.std.specs.List.{list_any, list_all}
+use Rattle.std.specs.List.{list_any, list_all, starts_with}
+
+-- a folder as a cloud: its name, and how often it failed
+pub record FolderCloud : Type 0 where
+  pub folder : List ℕ
+  pub faults : ℕ
 
 -- whether a byte may stand in the name of an object: a digit, a small letter or the slash
 abbrev pub is_name_byte : ℕ → Bool
@@ -26,3 +31,7 @@ object_byte byte = if byte == 95 then 47 else byte
 -- the object whose file has that name, where there is one
 abbrev pub object_of : List ℕ → Option (List ℕ)
 object_of file = if is_object_name (map object_byte file) then Some (map object_byte file) else None
+
+-- what a List may give: the name of an object, that begins with the prefix
+abbrev pub IsListed : List ℕ → List ℕ → Type 0
+IsListed prefix name = IsTrue (is_object_name name) × IsTrue (starts_with nat_eq name prefix)

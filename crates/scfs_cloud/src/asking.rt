@@ -2,7 +2,6 @@ ghost use Rattle.std.specs.Prelude.{IfOk, IsTrue};
 ghost use Rattle.scfs_base.specs.declared.cloud.CloudAnswer.TheVariants as CloudAnswer;
 ghost use Rattle.scfs_cloud.specs.Cutting.{suits};
 ghost use Rattle.scfs_cloud.specs.Asking.{Asks, IsCounted, IsLogged, IsStored, said, same};
-ghost use Rattle.scfs_cloud.specs.Kinds.{IsGiven, IsOfKind};
 
 use crate::cutting::cut_answer;
 use crate::{Cloud, CloudFault};
@@ -14,7 +13,6 @@ fn call<C: Cloud>(cloud: &mut C, request: &CloudRequest) -> Result<CloudAnswer, 
     ensures counted { IsCounted (C.faults cloud.old) (C.faults cloud.new) (said same result) }
     ensures logged { IsLogged (C.log cloud.old) (C.log cloud.new) request.now (said same result) }
     ensures stored { IsStored (C.store cloud.old) (C.store cloud.new) request.now (said same result) }
-    ensures kind { IfOk result (IsOfKind request.now) }
     ensures suited { IfOk result (λ answer. IsTrue (suits request.now answer)) }
 {
     match request {
@@ -45,8 +43,8 @@ pub fn ask_cloud<C: Cloud>(
     cloud: &mut C,
     request: &CloudRequest,
 ) -> Result<CloudAnswer, Memory>
-    ensures asks { Asks request.now (C.log cloud.old) (C.log cloud.new) (C.store cloud.old) (C.store cloud.new) (C.faults cloud.old) (C.faults cloud.new) result }
-    ensures given { IfOk result (IsGiven request.now) }
+    ensures { Asks request.now (C.log cloud.old) (C.log cloud.new) (C.store cloud.old) (C.store cloud.new)
+        (C.faults cloud.old) (C.faults cloud.new) result }
 {
     match call(cloud, request) {
         Ok(answer) => cut_answer(alloc, request, answer),

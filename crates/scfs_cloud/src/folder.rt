@@ -1,9 +1,11 @@
-ghost use Rattle.std.specs.Prelude.{◌≡◌, ◌≤◌, ◌∷◌, ◌++◌, IfOk, IsTrue, None, string_bytes};
+ghost use Rattle.std.specs.Prelude.{◌≡◌, ◌≤◌, ◌↔◌, ◌∷◌, ◌++◌, All, IfOk, IsTrue, None, OnOk, string_bytes};
+ghost use Rattle.std.specs.IoError.{error_kind};
+ghost use Rattle.std.specs.declared.io.ErrorKind.TheVariants as ErrorKind;
 ghost use Rattle.scfs_base.specs.declared.cloud.CloudRequest.TheVariants as CloudRequest;
 ghost use Rattle.scfs_base.specs.declared.cloud.CloudAnswer.TheVariants as CloudAnswer;
 ghost use Rattle.scfs_cloud.specs.declared.cloud.CloudFault.TheVariants as CloudFault;
 ghost use Rattle.scfs_cloud.specs.Asking.{IsCounted, IsLogged, IsStored, said, acked, found};
-ghost use Rattle.scfs_cloud.specs.Folder.{file_name, is_object_name};
+ghost use Rattle.scfs_cloud.specs.Folder.{file_name, is_object_name, IsListed};
 ghost use Rattle.scfs_cloud.specs.InMemory.{CountsFault};
 ghost use Rattle.scfs_base.specs.InMemory.{one_more};
 
@@ -17,7 +19,7 @@ use std::marker::Model;
 use std::rt::Files;
 use std::{fs, io};
 
-/// A cloud that is a folder, seen as its count of faults: nothing is told of what it holds. An object is a file of the
+/// A cloud that is a folder, seen as the folder's name and its count of faults: nothing is told of what it holds. An object is a file of the
 /// folder, whose name has `_` in place of `/`; it is written to the file `part` first, and then renamed.
 ///
 /// Names of objects are digits, small letters and `/`, with a `/` among them. So each object has a file of its own, none
@@ -31,11 +33,11 @@ pub struct DirCloud<'a, R: Files> {
 }
 
 impl<'a, R: Files> Model for DirCloud<'a, R> {
-    ghost use Rattle.std.specs.Prelude.{ℕ};
+    ghost use Rattle.scfs_cloud.specs.Folder.{FolderCloud};
 
-    ghost Value = { ℕ };
+    ghost Value = { FolderCloud };
 
-    ghost view = { λ cloud. cloud.faults };
+    ghost view = { λ cloud. record { folder = cloud.folder.now; faults = cloud.faults } };
 }
 
 /// The path of an object's file in a folder.
@@ -79,7 +81,9 @@ fn write_object<R: Files>(
     folder: &str,
     name: &[u8],
     body: &[u8],
-) -> io::Result<()> {
+) -> io::Result<()>
+    ensures { OnOk result (IsTrue (is_object_name name.now)) }
+{
     let path = path_of(alloc, folder, name)?;
     make_folder(files, folder)?;
     let mut part = String::from_str(alloc, folder)?;
@@ -89,7 +93,9 @@ fn write_object<R: Files>(
 }
 
 /// Removes an object, if it is there.
-fn remove_object<R: Files>(alloc: Global, files: &R, folder: &str, name: &[u8]) -> io::Result<()> {
+fn remove_object<R: Files>(alloc: Global, files: &R, folder: &str, name: &[u8]) -> io::Result<()>
+    ensures { OnOk result (IsTrue (is_object_name name.now)) }
+{
     let path = path_of(alloc, folder, name)?;
     match fs::remove_file(files, path.as_str()) {
         Err(error) if error.kind() != io::ErrorKind::NotFound => Err(error),
@@ -104,7 +110,9 @@ fn read_object<R: Files>(
     folder: &str,
     name: &[u8],
     limit: u32,
-) -> io::Result<Option<Bytes>> {
+) -> io::Result<Option<Bytes>>
+    ensures { OnOk result (IsTrue (is_object_name name.now)) }
+{
     let path = path_of(alloc, folder, name)?;
     let file = match OpenOptions::new().read(true).open(files, path.as_str()) {
         Ok(file) => file,
@@ -117,12 +125,9 @@ fn read_object<R: Files>(
 }
 
 /// Puts the object that a file is behind the names, if it begins with the prefix.
-fn push_object(
-    alloc: Global,
-    file: &str,
-    prefix: &[u8],
-    names: &mut NameList,
-) -> Result<(), Memory> {
+fn push_object(alloc: Global, file: &str, prefix: &[u8], names: &mut NameList) -> Result<(), Memory>
+    ensures { OnOk result (All (IsListed prefix.now) names.old → All (IsListed prefix.now) names.new) }
+{
     match object_of(alloc, file)? {
         Some(name) if name.as_slice().starts_with(prefix) => names.push(name),
         _ => Ok(()),
@@ -135,7 +140,9 @@ fn list_objects<R: Files + AllocGlobal + Clone + Drop>(
     files: &R,
     folder: &str,
     prefix: &[u8],
-) -> Result<NameList, CloudFault> {
+) -> Result<NameList, CloudFault>
+    ensures { IfOk result (λ names. All (IsListed prefix.now) names) }
+{
     let mut names = NameList::new(alloc);
     let entries = match fs::read_dir(files, folder) {
         Ok(entries) => entries,
@@ -152,7 +159,9 @@ fn list_objects<R: Files + AllocGlobal + Clone + Drop>(
 }
 
 /// Which fault an error is: want of memory, or a failure.
-fn fault_of(error: &io::Error) -> CloudFault {
+fn fault_of(error: &io::Error) -> CloudFault
+    ensures { (result ≡ CloudFault.Memory) ↔ (error_kind error.now ≡ ErrorKind.OutOfMemory) }
+{
     if error.kind() == io::ErrorKind::OutOfMemory {
         CloudFault::Memory
     } else {
@@ -163,7 +172,7 @@ fn fault_of(error: &io::Error) -> CloudFault {
 impl<'a, R: Files> DirCloud<'a, R> {
     /// The cloud of that folder, which is made at the first Put; while it is missing it holds no objects.
     pub fn new(alloc: Global, files: &'a R, folder: &'a str) -> DirCloud<'a, R>
-        ensures { result ≡ 0 }
+        ensures { result ≡ record { folder = folder.now; faults = 0 } }
     {
         DirCloud {
             alloc,
@@ -176,9 +185,9 @@ impl<'a, R: Files> DirCloud<'a, R> {
     /// Counts a fault that is a failure.
     fn count(&mut self, fault: CloudFault) -> CloudFault
         ensures same { result ≡ fault }
-        ensures failed { result ≡ CloudFault.Failed → self.new ≡ one_more self.old }
+        ensures failed { result ≡ CloudFault.Failed → self.new ≡ record self.old { faults = one_more self.old.faults } }
         ensures wanted { result ≡ CloudFault.Memory → self.new ≡ self.old }
-        ensures later { self.old ≤ self.new }
+        ensures later { self.old.faults ≤ self.new.faults }
     {
         if fault == CloudFault::Failed {
             self.faults = self.faults.saturating_add(1);
@@ -188,15 +197,17 @@ impl<'a, R: Files> DirCloud<'a, R> {
 }
 
 impl<'a, R: Files + AllocGlobal + Clone + Drop> Cloud for DirCloud<'a, R> {
-    ghost faults = { λ cloud. cloud };
+    ghost faults = { λ cloud. cloud.faults };
 
     ghost log = { λ _. None };
 
     ghost store = { λ _. None };
 
     fn put(&mut self, name: &[u8], body: &[u8]) -> Result<(), CloudFault>
-        ensures faults { CountsFault self.old self.new (said acked result) }
-        ensures counted { IsCounted self.old self.new (said acked result) }
+        ensures named { OnOk result (IsTrue (is_object_name name.now)) }
+        ensures folder { self.new.folder ≡ self.old.folder }
+        ensures faults { CountsFault self.old.faults self.new.faults (said acked result) }
+        ensures counted { IsCounted self.old.faults self.new.faults (said acked result) }
         ensures logged { IsLogged None None (CloudRequest.Put name.now body.now) (said acked result) }
         ensures stored { IsStored None None (CloudRequest.Put name.now body.now) (said acked result) }
     {
@@ -207,8 +218,10 @@ impl<'a, R: Files + AllocGlobal + Clone + Drop> Cloud for DirCloud<'a, R> {
     }
 
     fn get(&mut self, name: &[u8], limit: u32) -> Result<Option<Bytes>, CloudFault>
-        ensures faults { CountsFault self.old self.new (said found result) }
-        ensures counted { IsCounted self.old self.new (said found result) }
+        ensures named { OnOk result (IsTrue (is_object_name name.now)) }
+        ensures folder { self.new.folder ≡ self.old.folder }
+        ensures faults { CountsFault self.old.faults self.new.faults (said found result) }
+        ensures counted { IsCounted self.old.faults self.new.faults (said found result) }
         ensures logged { IsLogged None None (CloudRequest.Get name.now limit) (said found result) }
         ensures stored { IsStored None None (CloudRequest.Get name.now limit) (said found result) }
     {
@@ -219,8 +232,10 @@ impl<'a, R: Files + AllocGlobal + Clone + Drop> Cloud for DirCloud<'a, R> {
     }
 
     fn delete(&mut self, name: &[u8]) -> Result<(), CloudFault>
-        ensures faults { CountsFault self.old self.new (said acked result) }
-        ensures counted { IsCounted self.old self.new (said acked result) }
+        ensures named { OnOk result (IsTrue (is_object_name name.now)) }
+        ensures folder { self.new.folder ≡ self.old.folder }
+        ensures faults { CountsFault self.old.faults self.new.faults (said acked result) }
+        ensures counted { IsCounted self.old.faults self.new.faults (said acked result) }
         ensures logged { IsLogged None None (CloudRequest.Delete name.now) (said acked result) }
         ensures stored { IsStored None None (CloudRequest.Delete name.now) (said acked result) }
     {
@@ -231,8 +246,10 @@ impl<'a, R: Files + AllocGlobal + Clone + Drop> Cloud for DirCloud<'a, R> {
     }
 
     fn list(&mut self, prefix: &[u8]) -> Result<NameList, CloudFault>
-        ensures faults { CountsFault self.old self.new (said CloudAnswer.Names result) }
-        ensures counted { IsCounted self.old self.new (said CloudAnswer.Names result) }
+        ensures named { IfOk result (λ names. All (IsListed prefix.now) names) }
+        ensures folder { self.new.folder ≡ self.old.folder }
+        ensures faults { CountsFault self.old.faults self.new.faults (said CloudAnswer.Names result) }
+        ensures counted { IsCounted self.old.faults self.new.faults (said CloudAnswer.Names result) }
         ensures logged { IsLogged None None (CloudRequest.List prefix.now) (said CloudAnswer.Names result) }
         ensures stored { IsStored None None (CloudRequest.List prefix.now) (said CloudAnswer.Names result) }
     {

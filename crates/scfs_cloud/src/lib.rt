@@ -15,7 +15,7 @@ pub use cloud::{Cloud, CloudFault, Exchange};
 pub use cutting::NAME_LIMIT;
 pub use file_names::object_names_are_read;
 pub use folder::DirCloud;
-pub use memory::MemCloud;
+pub use memory::{MemCloud, short_names_stay};
 pub use said::SaidCloud;
 
 #[cfg(test)]

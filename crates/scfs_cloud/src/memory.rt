@@ -1,9 +1,11 @@
 ghost use Rattle.std.specs.Prelude.{◌≡◌, [], Some, IfOk, IsTrue, OnErr, OnOk};
+ghost use Rattle.scfs_base.specs.declared.cloud.CloudRequest.{CloudRequest};
 ghost use Rattle.scfs_base.specs.declared.cloud.CloudRequest.TheVariants as CloudRequest;
 ghost use Rattle.scfs_base.specs.declared.cloud.CloudAnswer.TheVariants as CloudAnswer;
+ghost use Rattle.scfs_net.specs.Store.{Objects};
 ghost use Rattle.scfs_net.specs.Queues.{answer_of, objects_with};
 ghost use Rattle.scfs_cloud.specs.Asking.{IsCounted, IsLogged, IsStored, said, acked, found, same};
-ghost use Rattle.scfs_cloud.specs.Cutting.{cut_answer, suits, HasShortNames};
+ghost use Rattle.scfs_cloud.specs.Cutting.{cut_answer, suits, HasShortNames, PutsShortName};
 ghost use Rattle.scfs_cloud.specs.InMemory.{AreOrdered, TellsTruth};
 
 use crate::answers::{bytes_of, done, names_of};
@@ -54,6 +56,12 @@ fn serve(alloc: Global, store: &mut Store, request: &CloudRequest) -> Result<Clo
     store.settle(request.copy(alloc)?, &answer)?;
     Ok(answer)
 }
+
+/// Serving a request leaves short names short.
+pub fn short_names_stay()
+    ensures { (objects : Objects) (request : CloudRequest) → HasShortNames objects → PutsShortName request
+        → HasShortNames (objects_with objects request) }
+{}
 
 impl MemCloud {
     /// A cloud that holds nothing, whose calls with the numbers `fails` (from 1) fail.

@@ -1,7 +1,7 @@
 -- What real clouds were asked, from event to event.
-use Rattle.std.proofs.Common.{◌≡◌, ◌≢◌, ◌≤◌, ℕ, List, [], ◌∷◌, ◌++◌, Option, Some, None, Result, Ok, Err, refl, ap, ◌∙◌, sym, subst, ◌⊎◌, inl, inr, arith, append_assoc, append-nil}
+use Rattle.std.proofs.Common.{◌≡◌, ◌≢◌, ◌≤◌, ℕ, List, [], ◌∷◌, ◌++◌, Option, Some, None, Result, Ok, Err, refl, ap, ◌∙◌, sym, subst, inl, inr, arith, append_assoc, append-nil}
 use Rattle.std.specs.Prelude.{map}
-use Rattle.std.proofs.lemmas.Bool.{eqb-true, eq-eqb}
+use Rattle.std.proofs.lemmas.Bool.{eq-eqb}
 use Rattle.std.proofs.lemmas.Bool.Decides.{eqb_tells}
 use Rattle.scfs_base.specs.Outside.{Rose}
 use Rattle.scfs_base.specs.declared.cloud.CloudAnswer.{CloudAnswer}
@@ -11,17 +11,17 @@ use Rattle.scfs_base.specs.declared.cloud.CloudRequest.TheVariants as requests
 use Rattle.scfs_base.specs.declared.outside.Memory.{Memory}
 use Rattle.scfs_schedule.specs.declared.types.Event.{Event}
 use Rattle.scfs_schedule.specs.declared.types.Event.TheVariants as events
-use Rattle.scfs_net.specs.Queues.{NetState, cloud_at, objects_after, objects_with}
+use Rattle.scfs_net.specs.Queues.{NetState, cloud_at, objects_after}
 use Rattle.scfs_net.specs.Store.{Objects}
 use Rattle.scfs_net.specs.declared.messages.Asked.{Asked}
-use Rattle.scfs_cloud.specs.Asking.{Asks, Logs, Stores, ServedAtMost}
-use Rattle.scfs_cloud.specs.Kinds.{IsGiven, IsOfKind}
+use Rattle.scfs_cloud.specs.Asking.{Logs, Stores, ServedAtMost}
+use Rattle.scfs_cloud.specs.Cutting.{IsKept}
 use Rattle.scfs_cloud.specs.declared.cloud.Exchange.{Exchange}
 use Rattle.scfs_model.specs.Clouds.{net}
 use Rattle.scfs_model.specs.Format.{Setup}
 use Rattle.scfs_model.specs.History.{Entry, History}
-use Rattle.scfs_live.specs.Asked.{InStep, IsAsked, IsAskedMore, IsOneMore, Logged, OneAhead, RecordsFail, Told, answered_oldest, as_recorded, exchange_at, exchanges, served_oldest}
-use Rattle.scfs_live.specs.Hearing.{AsksAs, AsksOldest}
+use Rattle.scfs_live.specs.Asked.{IsAsked, IsAskedMore, IsOneMore, Logged, Told, answered_oldest, as_recorded, exchange_at, exchanges, served_oldest}
+use Rattle.scfs_live.specs.Hearing.{AsksAs}
 use Rattle.scfs_live.proofs.EdgeLemmas.{rose_since}
 use Rattle.scfs_live.proofs.StoreLemmas.{IsQuiet, answer_leaves, objects_at, others_leave, quiet_leaves}
 
@@ -33,7 +33,7 @@ map_push f [] x = refl
 map_push f (y ∷ xs) x = ap (λ l. f y ∷ l) (map_push f xs x)
 
 -- an answer that is given leaves a store as the machine says
-stored_as : (objects : Objects) (after : Option Objects) (request : CloudRequest) (answer : CloudAnswer) → IsOfKind request answer
+stored_as : (objects : Objects) (after : Option Objects) (request : CloudRequest) (answer : CloudAnswer) → IsKept request answer
     → Stores request (Some objects) after (Ok answer) → after ≡ Some (objects_after objects request answer)
 stored_as objects after request answers.Fail kind stores = stores
 stored_as objects after request answers.Ack kind stores = stores.0
@@ -164,7 +164,7 @@ module _ (s : Setup) (new past : History) (e : Entry) (c : ℕ) (was mid : Told)
           (sym (ap (exchange_at c net_now) is ∙ exchange_there c net_now answer ∙ ap (λ (q : List Asked). answered_oldest q answer) some))
           (logged_one was.log mid.log now.log (exchanges s c new past) oldest.body answer so_far.logged x.asks.log);
       in_step = λ step.
-          stored_as (objects_at net_now c) now.store oldest.body answer x.given.kind
+          stored_as (objects_at net_now c) now.store oldest.body answer x.asks.kept
           (subst (λ (o : Option Objects). Stores oldest.body o now.store (Ok answer)) (so_far.in_step step) x.asks.store)
           ∙ ap Some (sym (answer_leaves s e (new ++ past) c answer oldest waiting is some));
     }

@@ -1,13 +1,11 @@
 -- A script's run by drives: first with no event, then with each event of the script in turn.
 use Rattle.std.proofs.Common.{◌≡◌, ◌⊎◌, inl, inr, List, [], ◌∷◌, ◌++◌, Option, Some, None, refl, ap, ◌∙◌, sym, subst, append_assoc, append-nil}
-use Rattle.scfs_base.specs.declared.cloud.CloudAnswer.{CloudAnswer}
 use Rattle.scfs_base.specs.declared.cloud.CloudAnswer.TheVariants as answers
 use Rattle.scfs_schedule.specs.declared.types.Event.{Event}
 use Rattle.scfs_model.specs.Format.{Setup}
 use Rattle.scfs_model.specs.History.{Entry, History}
 use Rattle.scfs_live.specs.declared.driver.Next.{Next}
-use Rattle.scfs_live.specs.declared.driver.Next.TheVariants.{Does}
-use Rattle.scfs_live.specs.Driving.{Driver, begins_with, begun, event_of, next_within}
+use Rattle.scfs_live.specs.Driving.{Driver, begins_with, event_of, next_within}
 use Rattle.scfs_live.specs.Driven.{ComesNext, IsDriven, IsDrivenFrom, IsLive, IsSettled, Live, RunsBegin, RunsEnd, RunsGoOn, RunsStop, answer_in, event_in, live_after, live_in, next, next_by, or_script}
 use Rattle.scfs_live.specs.Waits.{waits_after}
 

@@ -2,6 +2,7 @@
 use Rattle.std.proofs.Common.{◌≡◌, ◌≤◌, ℕ, ◌+◌, List, [], ◌∷◌, ◌++◌, refl, ap, ◌∙◌, sym, subst, Option, Some, None, length, length-append, inl, inr, arith, Ok, Err}
 use Rattle.scfs_base.specs.Outside.{Takes}
 use Rattle.scfs_policy.specs.declared.rank.RankFacts.{RankFacts}
+use Rattle.scfs_schedule.specs.Holding.{is_unfinished}
 use Rattle.scfs_schedule.specs.Splitting.{GivesLine, Split, Splitting, lines_of, no_lines, unsplit}
 use Rattle.scfs_schedule.specs.declared.types.Header.{Header}
 use Rattle.scfs_schedule.specs.declared.types.Which.{Which}
@@ -11,12 +12,14 @@ use Rattle.scfs_world.specs.Stepping.{IsWorld}
 use Rattle.scfs_live.specs.declared.ending.LiveEnd.{LiveEnd}
 use Rattle.scfs_live.specs.declared.ending.LiveEnd.TheVariants as ends
 use Rattle.scfs_live.specs.declared.running.Running.{Running}
+use Rattle.scfs_live.specs.declared.reopening.Reread.{Reread}
+use Rattle.scfs_live.specs.Edges.{GetsPart}
 use Rattle.scfs_live.specs.Finding.{found}
-use Rattle.scfs_live.specs.Keeping.{unkept}
+use Rattle.scfs_live.specs.Keeping.{missing, unkept}
 use Rattle.scfs_live.specs.Limits.{journal_limit}
-use Rattle.scfs_live.specs.Reopened.{EndsAgain, EndsLines, Passes, RunsAll, StopsAt, old_lines}
-use Rattle.scfs_live.specs.Reopening.{EndsAt, Follows, GoesOn, IsAt, RunsAgain, Walk, Walks, unwalked}
-use Rattle.scfs_live.specs.Rereading.{GivesNext, IsSoFar, StopsReading}
+use Rattle.scfs_live.specs.Reopened.{EndsAgain, EndsLines, EndsReopening, Passes, RunsAll, StopsAt, old_lines}
+use Rattle.scfs_live.specs.Reopening.{EndsAt, Follows, GoesOn, RunsAgain, Walks, unwalked}
+use Rattle.scfs_live.specs.Rereading.{EndsWriting, GivesNext, IsSoFar, Rereads, StopsReading}
 use Rattle.scfs_live.specs.Taking.{Fed}
 use Rattle.scfs_live.proofs.EdgeLemmas.{takes_then}
 use Rattle.scfs_live.proofs.SplitLemmas.{gave_all, gave_fed, gave_line, gave_more, gave_nothing, passed_limit, within_limit}
@@ -177,3 +180,32 @@ module _ (allows : RankFacts → ℕ → Type 0) (header : Header) where
       → length taken + room ≡ journal_limit + 1 → room ≤ 0 → ⊥
   far_within taken lines running room far none count full =
       let few = within_limit journal_limit whichs.Journal taken (far_all taken lines running far none).within in omega (arith, few, count, full)
+
+  -- what is missing of an old journal that was run again
+  pub missing_of : (left left' : Option (List ℕ)) (ends_then ends_now : ℕ) (reread : Reread) (r : Rereads allows header left left' ends_then ends_now reread)
+      → missing reread.unfinished reread.running.awaited ≡ missing (is_unfinished r.taken) r.place.awaited
+  missing_of left left' ends_then ends_now reread r =
+      ap (λ b. missing b reread.running.awaited) (sym r.unfinished) ∙ ap (λ a. missing (is_unfinished r.taken) a) r.at.awaited
+
+  -- it was run again, and writing ended so
+  pub ends_reopening : (left left' : Option (List ℕ)) (ends_then ends_now : ℕ) (before after : Option (List ℕ)) (reread : Reread) (end : LiveEnd)
+      → Rereads allows header left left' ends_then ends_now reread → EndsWriting before after (missing reread.unfinished reread.running.awaited) end
+      → EndsReopening allows header left left' ends_then ends_now before after end
+  ends_reopening left left' ends_then ends_now before after reread (ends.WriteFault whichs.Journal) r writing = record {
+    taken = r.taken;
+    place = r.place;
+    reads = r.reads;
+    wrote = subst (GetsPart before after) (missing_of left left' ends_then ends_now reread r) writing;
+  }
+  ends_reopening left left' ends_then ends_now before after reread (ends.WriteFault whichs.Line) r writing = absurd writing
+  ends_reopening left left' ends_then ends_now before after reread (ends.WriteFault whichs.Events) r writing = absurd writing
+  ends_reopening left left' ends_then ends_now before after reread (ends.WriteFault whichs.Input) r writing = absurd writing
+  ends_reopening left left' ends_then ends_now before after reread (ends.WriteFault whichs.Objects) r writing = absurd writing
+  ends_reopening left left' ends_then ends_now before after reread (ends.WriteFault whichs.Out) r writing = absurd writing
+  ends_reopening left left' ends_then ends_now before after reread ends.Memory r writing =
+      record { taken = r.taken; takes = r.reads.takes; ends = tt; nothing = writing }
+  ends_reopening left left' ends_then ends_now before after reread (ends.TooLarge which) r writing = absurd writing
+  ends_reopening left left' ends_then ends_now before after reread (ends.ReadFault which) r writing = absurd writing
+  ends_reopening left left' ends_then ends_now before after reread (ends.Bad bad) r writing = absurd writing
+  ends_reopening left left' ends_then ends_now before after reread (ends.Unbuilt line) r writing = absurd writing
+  ends_reopening left left' ends_then ends_now before after reread (ends.Differs line kept made) r writing = absurd writing

@@ -1,5 +1,5 @@
 -- Runs of a script, computed from the definitions: what comes next, and the events that this makes.
-use Rattle.std.specs.Prelude.{◌≡◌, ℕ, List, [], ◌∷◌, ◌++◌, codes, drop, length, replicate, Option, Some, None, refl, zero, suc}
+use Rattle.std.specs.Prelude.{◌≡◌, ℕ, List, [], ◌∷◌, codes, drop, length, replicate, Option, Some, None, refl, zero, suc}
 use Rattle.scfs_base.specs.Words.{hex_pair}
 use Rattle.scfs_base.specs.declared.cloud.CloudAnswer.{CloudAnswer}
 use Rattle.scfs_base.specs.declared.cloud.CloudAnswer.TheVariants as answers
@@ -7,7 +7,7 @@ use Rattle.scfs_schedule.specs.declared.types.Event.{Event}
 use Rattle.scfs_schedule.specs.declared.types.Event.TheVariants as events
 use Rattle.scfs_schedule.specs.declared.types.Call.TheVariants as calls
 use Rattle.scfs_model.specs.Format.{Setup}
-use Rattle.scfs_model.specs.History.{Entry, History, events_then}
+use Rattle.scfs_model.specs.History.{History, events_then}
 use Rattle.scfs_model.proofs.ShortFormat.{setup}
 use Rattle.scfs_model.proofs.Played.{entry_of}
 use Rattle.scfs_live.specs.declared.driver.Next.{Next}

@@ -1,12 +1,14 @@
 -- The whole lines of a text that is taken piece by piece.
-use Rattle.std.proofs.Common.{◌≡◌, ◌≢◌, ◌≤◌, ◌⊎◌, ℕ, List, [], ◌∷◌, ◌++◌, refl, ap, ◌∙◌, sym, subst, Bool, true, false, cond, eqb, ltb, Option, Some, None, length, append_assoc, append-nil, inl, inr, take, arith}
+use Rattle.std.proofs.Common.{◌≡◌, ◌≢◌, ◌≤◌, ◌⊎◌, ℕ, List, [], ◌∷◌, ◌++◌, refl, ap, ◌∙◌, sym, Bool, true, false, cond, eqb, ltb, Option, Some, None, length, append_assoc, append-nil, inl, inr, take, arith}
 use Rattle.std.proofs.lemmas.Bool.{ltb-false}
+use Rattle.std.proofs.lemmas.List.{take_all}
 use Rattle.scfs_base.specs.Pieces.{onto, pieces}
 use Rattle.scfs_schedule.specs.declared.types.Which.{Which}
 use Rattle.scfs_schedule.specs.declared.types.Which.TheVariants as whichs
 use Rattle.scfs_schedule.specs.Holding.{is_unfinished}
 use Rattle.scfs_schedule.specs.Reading.{is_too_long}
 use Rattle.scfs_schedule.specs.Splitting.{Split, Splitting, lines_of, no_lines, split, split_lines, unsplit, with_line}
+use Rattle.scfs_live.specs.Keeping.{all_but_last, whole_lines}
 use Rattle.scfs_live.specs.Taking.{Fed, with_lines}
 
 -- of a text these bytes were taken and these lines given, the others are still to come
@@ -105,3 +107,25 @@ is_unfinished-append [] piece some = refl
 is_unfinished-append (b ∷ []) [] some = absurd (omega (arith, some))
 is_unfinished-append (b ∷ []) (x ∷ xs) some = refl
 is_unfinished-append (b ∷ c ∷ rest) piece some = is_unfinished-append (c ∷ rest) piece some
+
+-- the lines of a text that passes no limit are its whole lines
+
+whole_last : (t : Bool) (passed : Option Which) → (cond t (no_lines (Some whichs.Line)) (no_lines passed)).lines ≡ []
+whole_last true passed = refl
+whole_last false passed = refl
+
+whole_then : (line : List ℕ) (lines : List (List ℕ)) (rest : Split) (t : Bool) → (rest.passed ≡ None → rest.lines ≡ lines)
+    → (cond t (no_lines (Some whichs.Line)) (with_line line rest)).passed ≡ None
+    → (cond t (no_lines (Some whichs.Line)) (with_line line rest)).lines ≡ line ∷ lines
+whole_then line lines rest true further none = cc
+whole_then line lines rest false further none = ap (λ ls. line ∷ ls) (further none)
+
+whole_split : (longer : Bool) (which : Which) (ps : List (List ℕ)) → (split_lines longer which ps).passed ≡ None → (split_lines longer which ps).lines ≡ all_but_last ps
+whole_split longer which [] none = refl
+whole_split longer which (last ∷ []) none = whole_last (is_too_long last) (cond longer (Some which) None)
+whole_split longer which (line ∷ next ∷ rest) none =
+    whole_then line (all_but_last (next ∷ rest)) (split_lines longer which (next ∷ rest)) (is_too_long line) (whole_split longer which (next ∷ rest)) none
+
+pub split_whole : (limit : ℕ) (which : Which) (text : List ℕ) → (split limit which text).passed ≡ None → (split limit which text).lines ≡ whole_lines text
+split_whole limit which text none =
+    whole_split (ltb limit (length text)) which (pieces 10 (take limit text)) none ∙ ap whole_lines (take_all limit text (within_limit limit which text none))

@@ -1,12 +1,10 @@
 -- What the clouds of a history hold, and what waits for them, from event to event.
-use Rattle.std.proofs.Common.{◌≡◌, ◌≢◌, ℕ, zero, suc, List, [], ◌∷◌, ◌++◌, Option, Some, None, refl, ap, ◌∙◌, sym, subst, ◌⊎◌, inl, inr, get_or}
-use Rattle.std.specs.Prelude.{fold}
+use Rattle.std.proofs.Common.{◌≡◌, ◌≢◌, ℕ, zero, suc, List, [], ◌∷◌, refl, ap, ◌∙◌, ◌⊎◌, inl, inr, get_or}
 use Rattle.std.proofs.Math.ListN.{set}
 use Rattle.scfs_base.specs.declared.cloud.CloudAnswer.{CloudAnswer}
-use Rattle.scfs_base.specs.declared.cloud.CloudAnswer.TheVariants as answers
 use Rattle.scfs_schedule.specs.declared.types.Event.{Event}
 use Rattle.scfs_schedule.specs.declared.types.Event.TheVariants as events
-use Rattle.scfs_net.specs.Queues.{CloudState, NetState, answer_to, after_answer, always, answered, asked, at_cloud, cloud_at, new_cloud, net_asked, objects_after, taken}
+use Rattle.scfs_net.specs.Queues.{CloudState, NetState, answer_to, after_answer, always, answered, asked, at_cloud, cloud_at, new_cloud, objects_after, taken}
 use Rattle.scfs_net.specs.Store.{Objects}
 use Rattle.scfs_net.specs.declared.messages.Asked.{Asked}
 use Rattle.scfs_model.specs.Agents.{Sent}

@@ -1,12 +1,11 @@
 -- Lines that are run again.
-use Rattle.std.proofs.Common.{◌≡◌, ◌<◌, ◌≤◌, ◌^◌, ℕ, ◌+◌, List, [], ◌∷◌, ◌++◌, refl, ap, ◌∙◌, sym, subst, true, length, map, Ok, Err, arith}
+use Rattle.std.proofs.Common.{◌≡◌, ◌<◌, ◌^◌, ℕ, ◌+◌, List, [], ◌∷◌, ◌++◌, refl, ap, ◌∙◌, sym, subst, true, length, map, Ok, arith}
 use Rattle.scfs_base.specs.Limits.{carried_limit, events_limit}
 use Rattle.scfs_net.specs.Queues.{NetState}
 use Rattle.scfs_policy.specs.declared.rank.RankFacts.{RankFacts}
 use Rattle.scfs_schedule.specs.declared.types.Event.{Event}
 use Rattle.scfs_schedule.specs.declared.types.Header.{Header}
 use Rattle.scfs_schedule.specs.declared.types.Line.{Line}
-use Rattle.scfs_schedule.specs.declared.types.Which.TheVariants as whichs
 use Rattle.scfs_model.specs.Clouds.{all_asked, message_of, moved_by, net}
 use Rattle.scfs_model.specs.History.{Entry, History}
 use Rattle.scfs_model.specs.Layers.{Row, rows}
@@ -19,7 +18,6 @@ use Rattle.scfs_world.specs.State.{WorldState}
 use Rattle.scfs_world.specs.Stepping.{IsTooLarge, IsWorld}
 use Rattle.scfs_world.specs.Whole.{StatesAreWhole}
 use Rattle.scfs_live.specs.declared.awaited.Awaited.{Awaited}
-use Rattle.scfs_live.specs.declared.ending.LiveEnd.TheVariants as ends
 use Rattle.scfs_live.specs.declared.finding.Found.{Found}
 use Rattle.scfs_live.specs.declared.finding.Found.TheVariants as founds
 use Rattle.scfs_live.specs.declared.running.Running.{Running}

@@ -1,5 +1,6 @@
 -- What a drive can be given, and what can come next in it.
-use Rattle.std.specs.Prelude.{◌≡◌, ◌<◌, ◌+◌, ◌*◌, length, true, All, None, IfSome}
+use Rattle.std.specs.Prelude.{◌≡◌, ◌<◌, ◌+◌, ◌*◌, length, true, None, IfSome}
+use Rattle.scfs_anchor.specs.Tree.{Each}
 use Rattle.scfs_schedule.specs.Grammar.{IsEvent, IsScriptEvent}
 use Rattle.scfs_schedule.specs.declared.types.Event.{Event}
 use Rattle.scfs_schedule.specs.declared.types.Header.{Header}
@@ -28,5 +29,5 @@ CanBeNext header waits (Hears c) = (c < 3 * header.f + 1) × (request_waits wait
 -- a driver under a header, once what was given is done: it is to work at agents and clouds that there are
 pub record Fits (header : Header) (driver : Driver) : Type 0 where
   pub given : driver.given ≡ None
-  pub work : All (IsWork (length header.agents) (3 * header.f + 1)) driver.work
+  pub work : Each (IsWork (length header.agents) (3 * header.f + 1)) driver.work
   pub called : IfSome driver.called (λ a. a < length header.agents)

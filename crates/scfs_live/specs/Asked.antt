@@ -3,7 +3,6 @@ use Rattle.std.specs.Prelude.{◌≡◌, ◌≢◌, ◌≤◌, ◌⊎◌, ℕ, L
 use Rattle.scfs_base.specs.Outside.{Rose}
 use Rattle.scfs_base.specs.declared.cloud.CloudAnswer.{CloudAnswer}
 use Rattle.scfs_base.specs.declared.cloud.CloudAnswer.TheVariants as answers
-use Rattle.scfs_base.specs.declared.cloud.CloudRequest.{CloudRequest}
 use Rattle.scfs_schedule.specs.declared.types.Event.{Event}
 use Rattle.scfs_schedule.specs.declared.types.Event.TheVariants as events
 use Rattle.scfs_net.specs.Queues.{NetState, cloud_at, objects_with}
@@ -13,7 +12,7 @@ use Rattle.scfs_cloud.specs.Cutting.{cut_answer}
 use Rattle.scfs_cloud.specs.declared.cloud.Exchange.{Exchange}
 use Rattle.scfs_model.specs.Clouds.{net}
 use Rattle.scfs_model.specs.Format.{Setup}
-use Rattle.scfs_model.specs.History.{Entry, History}
+use Rattle.scfs_model.specs.History.{History}
 
 -- what is known of a real cloud: its count of faults, and where it tells them its log and its store
 pub record Told : Type 0 where

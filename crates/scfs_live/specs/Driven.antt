@@ -5,7 +5,7 @@ use Rattle.scfs_base.specs.declared.cloud.CloudAnswer.TheVariants as answers
 use Rattle.scfs_schedule.specs.declared.types.Event.{Event}
 use Rattle.scfs_schedule.specs.declared.types.Event.TheVariants as events
 use Rattle.scfs_model.specs.Format.{Setup}
-use Rattle.scfs_model.specs.History.{Entry, History}
+use Rattle.scfs_model.specs.History.{History}
 use Rattle.scfs_live.specs.declared.driver.Next.{Next}
 use Rattle.scfs_live.specs.declared.driver.Next.TheVariants.{Does}
 use Rattle.scfs_live.specs.Driving.{Driver, begins_with, begun, next_within, event_of}

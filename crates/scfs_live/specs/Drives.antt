@@ -1,11 +1,11 @@
 -- The contract of a drive.
-use Rattle.std.specs.Prelude.{◌≡◌, ℕ, List, ◌++◌, length, Option}
+use Rattle.std.specs.Prelude.{◌≤◌, ◌≡◌, ℕ, List, ◌++◌, length, Option}
 use Rattle.scfs_base.specs.Limits.{events_limit}
 use Rattle.scfs_policy.specs.declared.rank.RankFacts.{RankFacts}
 use Rattle.scfs_schedule.specs.declared.types.Event.{Event}
 use Rattle.scfs_schedule.specs.declared.types.Header.{Header}
 use Rattle.scfs_schedule.specs.declared.types.Which.TheVariants as whiches
-use Rattle.scfs_model.specs.History.{Entry, History}
+use Rattle.scfs_model.specs.History.{History}
 use Rattle.scfs_model.specs.UnitFormat.{under}
 use Rattle.scfs_world.specs.Happening.{IsPlayed, Stands}
 use Rattle.scfs_world.specs.State.{WorldState}
@@ -80,6 +80,7 @@ pub record Ends (allows : RankFacts → ℕ → Type 0) (end : LiveEnd) (header 
   pub new : History
   pub after : Driver
   pub drove : Drove allows header (begins_with (under header) given) new past after
+  pub few : length (new ++ past) ≤ events_limit
   pub due : EndIsDue allows end header after (new ++ past)
   pub wrote : EndWrites end j j' o o' new past
   pub asked : EndAsks end header new past clouds clouds'

@@ -1,5 +1,5 @@
 -- What the calls of a driver give.
-use Rattle.std.specs.Prelude.{◌≡◌, ◌<◌, ℕ, List, [], ◌∷◌, All, Option, Some, None}
+use Rattle.std.specs.Prelude.{◌≡◌, ◌<◌, ℕ, List, [], Option, Some, None}
 use Rattle.scfs_live.specs.declared.driver.Next.{Next}
 use Rattle.scfs_live.specs.declared.driver.Work.{Work}
 use Rattle.scfs_live.specs.declared.driver.Work.TheVariants.{Serve, Tell, TellRest, Ask, Hand, HandRest}

@@ -1,10 +1,9 @@
 -- What is asked of the real clouds for what comes next.
-use Rattle.std.specs.Prelude.{◌≡◌, ◌≢◌, ℕ, List, [], ◌∷◌, length, Some, Result, Ok, Err, IfOk, slice_get}
+use Rattle.std.specs.Prelude.{◌≡◌, ◌≢◌, ℕ, List, [], ◌∷◌, length, Some, Result, Ok, Err, slice_get}
 use Rattle.scfs_base.specs.declared.cloud.CloudAnswer.{CloudAnswer}
 use Rattle.scfs_base.specs.declared.cloud.CloudRequest.{CloudRequest}
 use Rattle.scfs_base.specs.declared.outside.Memory.{Memory}
 use Rattle.scfs_cloud.specs.Asking.{Asks}
-use Rattle.scfs_cloud.specs.Kinds.{IsGiven}
 use Rattle.scfs_net.specs.Queues.{NetState, cloud_at}
 use Rattle.scfs_net.specs.declared.messages.Asked.{Asked}
 use Rattle.scfs_schedule.specs.declared.types.Event.{Event}
@@ -16,7 +15,6 @@ use Rattle.scfs_live.specs.declared.driver.Next.TheVariants.{Does, Hears}
 -- a cloud was asked this, with that result
 pub record AsksAs (request : CloudRequest) (result : Result CloudAnswer Memory) (before now : Told) : Type 0 where
   pub asks : Asks request before.log now.log before.store now.store before.faults now.faults result
-  pub given : IfOk result (IsGiven request)
 
 -- a cloud was asked the oldest request that waits
 abbrev pub AsksOldest : List Asked → Result CloudAnswer Memory → Told → Told → Type 0

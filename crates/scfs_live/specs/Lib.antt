@@ -6,9 +6,11 @@ pub mod Driving
 pub mod Edges
 pub mod Finding
 pub mod Given
+pub mod GoingOn
 pub mod Hearing
 pub mod Journal
 pub mod Keeping
+pub mod Leaving
 pub mod Limits
 pub mod Recording
 pub mod Reopened

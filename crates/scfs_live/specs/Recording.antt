@@ -1,5 +1,5 @@
 -- What a drive writes of its new events: their pieces to the journal, and behind that their lines to out.
-use Rattle.std.specs.Prelude.{◌≡◌, ◌≤◌, ◌<◌, ℕ, List, [], ◌∷◌, ◌++◌, length, Option, Some, None, Result, Ok, Err}
+use Rattle.std.specs.Prelude.{◌≡◌, ◌≤◌, ◌<◌, ℕ, List, [], ◌∷◌, Option, Result, Ok, Err}
 use Rattle.scfs_base.specs.Limits.{carried_limit}
 use Rattle.scfs_base.specs.Outside.{Puts, Rose}
 use Rattle.scfs_policy.specs.declared.rank.RankFacts.{RankFacts}
@@ -17,11 +17,13 @@ use Rattle.scfs_live.specs.Journal.{pieces_of, lines_of}
 use Rattle.scfs_live.specs.declared.ending.LiveEnd.{LiveEnd}
 use Rattle.scfs_live.specs.declared.ending.LiveEnd.TheVariants as ends
 
--- an event's piece went to the journal, and then its lines to out; where the journal failed nothing went to out
+-- an event's piece went to the journal, and then its lines to out; where the journal failed nothing went to out; where memory was wanting
+-- nothing was written
 abbrev pub Writes : {T : Type 0} → (j j' o o' : Option (List ℕ)) → (piece shown : List ℕ) → Result T LiveEnd → Type 0
 Writes j j' o o' piece shown (Ok x) = Puts j j' piece × Puts o o' shown
 Writes j j' o o' piece shown (Err (ends.WriteFault whiches.Journal)) = GetsPart j j' piece × Puts o o' []
 Writes j j' o o' piece shown (Err (ends.WriteFault whiches.Out)) = Puts j j' piece × GetsPart o o' shown
+Writes j j' o o' piece shown (Err ends.Memory) = Puts j j' [] × Puts o o' []
 Writes j j' o o' piece shown (Err end) = ⊥
 
 -- writing fails at journal or out only where its count of faults rose; the counts never fall

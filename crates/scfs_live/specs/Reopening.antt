@@ -63,7 +63,8 @@ EndsAt allows header past number found (ends.Differs line kept made) = (line ≡
 EndsAt allows header past number found (ends.TooLarge whichs.Events) =
     (event : Event) × (found ≡ founds.Does event) × (is_built event ≡ true) × (length past ≡ events_limit)
 EndsAt allows header past number found (ends.TooLarge whichs.Objects) =
-    (event : Event) × (found ≡ founds.Does event) × (is_built event ≡ true) × (length past < events_limit) × IsTooLargeNext allows header past event
+    (event : Event) × (found ≡ founds.Does event) × (is_built event ≡ true) × (length past < events_limit)
+    × IsTooLargeNext allows header past event
 EndsAt allows header past number found (ends.TooLarge which) = ⊥
 EndsAt allows header past number found (ends.ReadFault which) = ⊥
 EndsAt allows header past number found (ends.WriteFault which) = ⊥

@@ -1,5 +1,5 @@
 -- Reopening an old journal: how far it is.
-use Rattle.std.specs.Prelude.{◌≡◌, ℕ, List, [], ◌++◌, length, Option, Some, None, Result, Ok, Err}
+use Rattle.std.specs.Prelude.{◌≡◌, ℕ, List, ◌++◌, length, Option, Some, Result, Ok, Err}
 use Rattle.scfs_base.specs.Outside.{Takes}
 use Rattle.scfs_policy.specs.declared.rank.RankFacts.{RankFacts}
 use Rattle.scfs_schedule.specs.Holding.{is_unfinished}
@@ -32,7 +32,8 @@ pub record IsSoFar (allows : RankFacts → ℕ → Type 0) (header : Header) (ta
   pub at : IsAt allows header place running
 
 -- an old journal was read to its end and run again
-pub record Rereads (allows : RankFacts → ℕ → Type 0) (header : Header) (left left' : Option (List ℕ)) (ends_then ends_now : ℕ) (reread : Reread) : Type 0 where
+pub record Rereads (allows : RankFacts → ℕ → Type 0) (header : Header) (left left' : Option (List ℕ)) (ends_then ends_now : ℕ)
+    (reread : Reread) : Type 0 where
   pub taken : List ℕ
   pub place : Walk
   pub reads : ReadsAll allows header left left' ends_then ends_now taken place

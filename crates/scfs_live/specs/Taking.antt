@@ -19,7 +19,8 @@ pub record Fed (old : Splitting) (taken : List ℕ) (new : Splitting) : Type 0 w
 -- a failure takes nothing.
 abbrev pub TakesPiece : Option (List ℕ) → Option (List ℕ) → Splitting → Splitting → ℕ → PieceRead → Type 0
 TakesPiece left left' old new room (reads.Took count unfinished) =
-    (taken : List ℕ) × (length taken ≡ count) × (0 < count) × (count ≤ room) × Takes left left' taken × Fed old taken new × (is_unfinished taken ≡ unfinished)
+    (taken : List ℕ) × (length taken ≡ count) × (0 < count) × (count ≤ room) × Takes left left' taken × Fed old taken new
+    × (is_unfinished taken ≡ unfinished)
 TakesPiece left left' old new room reads.End = (new ≡ old) × Takes left left' [] × IfSome left' (λ rest. rest ≡ [])
 TakesPiece left left' old new room reads.Fault = (new ≡ old) × (left' ≡ left)
 TakesPiece left left' old new room reads.Memory = (taken : List ℕ) × (length taken ≤ room) × Takes left left' taken

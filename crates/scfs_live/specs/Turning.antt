@@ -1,5 +1,5 @@
 -- One event of a drive: it is done, and then recorded.
-use Rattle.std.specs.Prelude.{◌≡◌, ℕ, List, [], ◌∷◌, length, Option, Result, Ok, Err}
+use Rattle.std.specs.Prelude.{◌<◌, ◌≡◌, ℕ, List, [], ◌∷◌, length, Option, Result, Ok, Err}
 use Rattle.scfs_base.specs.Limits.{events_limit}
 use Rattle.scfs_base.specs.Outside.{Puts}
 use Rattle.scfs_base.specs.declared.cloud.CloudAnswer.{CloudAnswer}
@@ -29,9 +29,10 @@ pub record WroteNothing (j j' o o' : Option (List ℕ)) : Type 0 where
   pub journal : Puts j j' []
   pub out : Puts o o' []
 
--- After a history that was played, an entry of an event of which this holds, which was played as well.
+-- After a history that was played, below the limit of events, an entry of an event of which this holds, which was played as well.
 pub record Played (allows : RankFacts → ℕ → Type 0) (header : Header) (past : History) (IsIt : Event → Type 0) (e : Entry) : Type 0 where
   pub it : IsIt e.event
+  pub few : length past < events_limit
   pub plays : IsPlayed allows header (e ∷ past)
 
 -- What became of an event of which this holds. It was done: the world stands for the history with its entry, and its piece and its lines

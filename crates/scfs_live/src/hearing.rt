@@ -1,6 +1,7 @@
 //! A real cloud is asked for the answer that an event says.
 
 ghost use Rattle.std.specs.Prelude.{◌≡◌, ◌≤◌, ◌<◌, ◌+◌, ◌*◌, IfOk, length, map};
+ghost use Rattle.scfs_cloud.specs.Cutting.{IsKept};
 ghost use Rattle.scfs_world.specs.Stepping.{IsWorld};
 ghost use Rattle.scfs_live.specs.Asked.{told};
 ghost use Rattle.scfs_live.specs.Driven.{answer_in};
@@ -26,6 +27,7 @@ fn ask_one<C: Cloud>(
     requires { cloud < length clouds.old }
     ensures asked { AtOne cloud (AsksAs request.now result) (map (λ c. told (C.faults c) (C.log c) (C.store c)) clouds.old)
         (map (λ c. told (C.faults c) (C.log c) (C.store c)) clouds.new) }
+    ensures kept { IfOk result (IsKept request.now) }
     ensures clouds { length clouds.new ≡ length clouds.old }
 {
     ask_cloud(alloc, &mut clouds[usize::from(cloud)], request)

@@ -2,27 +2,32 @@
 #![tactic(auto)]
 
 mod awaited;
-mod drive;
 mod driver;
+mod driving;
 mod ending;
 mod finding;
+mod going_on;
 mod hearing;
+mod laws;
 mod limits;
 #[cfg(test)]
 mod old_journals;
 mod pieces;
-mod record;
+mod recording;
 mod reopening;
 mod running;
-#[cfg(test)]
-mod stub;
 #[cfg(test)]
 mod tests;
 mod waits;
 mod writing;
 
-pub use drive::drive;
 pub use driver::{Driver, Next, Work};
+pub use driving::drive;
 pub use ending::LiveEnd;
+pub use going_on::{
+    left_journals_go_on, stopped_calls_go_on, stops_leave_journals, walked_events_are_done,
+    walked_lines_are_kept,
+};
+pub use laws::drives_make_runs;
 pub use reopening::reopen;
 pub use writing::write_all;

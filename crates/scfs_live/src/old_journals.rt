@@ -1,5 +1,9 @@
 //! Old journals that are run again: what of them is kept, what is written, and at which line they end it.
 
+ghost use Rattle.std.specs.Prelude.{◌≡◌, true, IfOk};
+ghost use Rattle.scfs_schedule.specs.Grammar.{IsHeader};
+ghost use Rattle.scfs_world.specs.Built.{is_built_header};
+
 use crate::{LiveEnd, reopen};
 use scfs_base::{Bytes, MemSink, MemSource, Sequence};
 use scfs_policy::{RankFacts, RankRule};
@@ -31,7 +35,10 @@ const EMPTY: Old<'static> = Old {
 };
 
 /// One blocking agent over four clouds.
-fn header(alloc: Global) -> Result<Header, Fail> {
+fn header(alloc: Global) -> Result<Header, Fail>
+    ensures form { IfOk result (λ header. IsHeader header) }
+    ensures built { IfOk result (λ header. is_built_header header ≡ true) }
+{
     let mut agents = Vec::new(alloc);
     agents.push((Mode::Blocking, [0; 32]))?;
     Ok(Header {
@@ -278,4 +285,17 @@ fn reads_and_writes_that_fail(rt: HostRuntime) -> Result<(), Fail> {
         ..mark
     };
     expect(&rt, rest, "write fault Journal", "~\n")
+}
+
+#[test]
+fn a_line_that_is_too_long(rt: HostRuntime) -> Result<(), Fail> {
+    let mut long = String::new(rt.alloc());
+    for _ in 0..1_048_577 {
+        long.push_str("x")?;
+    }
+    let run = Old {
+        parts: &[HEADER, "call 0 create /a\n", long.as_str()],
+        ..EMPTY
+    };
+    expect(&rt, run, "too large Line", "")
 }

@@ -1,4 +1,5 @@
 ghost use Rattle.std.specs.Prelude.{◌≡◌, ◌≤◌, [], List, ℕ, IfErr, IfOk, OnOk, None, true};
+ghost use Rattle.scfs_base.specs.Limits.{events_limit};
 ghost use Rattle.scfs_base.specs.Outside.{Puts, Rose};
 ghost use Rattle.scfs_policy.specs.Rank.{IsRankRule};
 ghost use Rattle.scfs_schedule.specs.Grammar.{IsHeader};
@@ -184,6 +185,7 @@ pub fn reopen<L: Source, J: Sink, R: Fn(RankFacts) -> u64>(
     ensures reopens { IfOk result (λ world. Reopens (R.post rank.now) header.now (L.left old.old) (L.left old.new) (L.ends old.old) (L.ends old.new)
         (J.written journal.old) (J.written journal.new) world) }
     ensures world { IfOk result (λ world. IsWorld world) }
+    ensures room { IfOk result (λ world. world.events ≤ events_limit) }
     ensures ends { IfErr result (λ end. EndsReopening (R.post rank.now) header.now (L.left old.old) (L.left old.new) (L.ends old.old) (L.ends old.new)
         (J.written journal.old) (J.written journal.new) end) }
     ensures read_fault { IfErr result (λ end. end ≡ LiveEnd.ReadFault Which.Journal → Rose (L.faults old.old) (L.faults old.new)) }

@@ -1,4 +1,4 @@
-ghost use Rattle.std.specs.Prelude.{◌≡◌, ◌≤◌, ◌<◌, true, [], ℕ, map, IfOk};
+ghost use Rattle.std.specs.Prelude.{◌≡◌, ◌≤◌, ◌<◌, ◌↔◌, true, [], ℕ, map, IfOk, IsTrue};
 ghost use Rattle.scfs_base.specs.Limits.{events_limit};
 ghost use Rattle.scfs_policy.specs.Rank.{IsRankRule};
 ghost use Rattle.scfs_schedule.specs.Grammar.{IsEvent, IsHeader};
@@ -15,7 +15,7 @@ use crate::LiveEnd;
 use crate::awaited::Awaited;
 use crate::finding::Found;
 use crate::limits::EVENTS_LIMIT;
-use scfs_base::Memory;
+use scfs_base::{Bytes, Memory};
 use scfs_policy::{RankFacts, RankRule};
 use scfs_schedule::{Bad, Event, Header, Which};
 use scfs_world::{StepFault, Stepped, World, is_built, states_are_whole};
@@ -69,6 +69,13 @@ fn step<R: Fn(RankFacts) -> u64>(
     }
 }
 
+/// Whether so many events are the most.
+fn is_full(events: u64) -> bool
+    ensures { IsTrue result ↔ (events ≡ events_limit) }
+{
+    events == EVENTS_LIMIT
+}
+
 /// Plays the event of the line of this number, unless it ends the running again.
 fn play<R: Fn(RankFacts) -> u64>(
     alloc: Global,
@@ -87,7 +94,7 @@ fn play<R: Fn(RankFacts) -> u64>(
 {
     if !is_built(&event) {
         Err(LiveEnd::Unbuilt(number))
-    } else if world.events() == EVENTS_LIMIT {
+    } else if is_full(world.events()) {
         Err(LiveEnd::TooLarge(Which::Events))
     } else {
         step(alloc, world, &event, rank)
@@ -131,6 +138,13 @@ impl Running {
     }
 }
 
+/// The line of this number is not the one that was made.
+fn differs(line: u64, kept: Bytes, made: Bytes) -> LiveEnd
+    ensures { result ≡ LiveEnd.Differs line kept made }
+{
+    LiveEnd::Differs { line, kept, made }
+}
+
 /// Does what the line of this number was found to be.
 fn after_line<R: Fn(RankFacts) -> u64>(
     alloc: Global,
@@ -159,11 +173,7 @@ fn after_line<R: Fn(RankFacts) -> u64>(
             awaited: awaited.without_line(),
         }),
         Found::Does(event) => play(alloc, number, world, event, rank),
-        Found::Differs(kept, made) => Err(LiveEnd::Differs {
-            line: number,
-            kept,
-            made,
-        }),
+        Found::Differs(kept, made) => Err(differs(number, kept, made)),
         Found::Wrong(kind) => Err(LiveEnd::Bad(Bad { line: number, kind })),
     }
 }

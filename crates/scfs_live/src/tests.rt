@@ -1,8 +1,8 @@
-use crate::drive::drive;
+use crate::driving::drive;
 use crate::ending::LiveEnd;
 use crate::writing::write_all;
 use scfs_base::{Bytes, MemSink, Sequence};
-use crate::stub::MemCloud;
+use scfs_cloud::MemCloud;
 use scfs_policy::{RankFacts, RankRule};
 use scfs_schedule::{Header, Mode, Which, push_header, read_event};
 use scfs_world::World;
@@ -76,14 +76,38 @@ fn run(alloc: Global, failing: &[usize], failing_write: Option<u64>) -> Result<R
         }
     }
     let mut end = None;
-    match drive(alloc, world, None, clouds.as_mut_slice(), &mut out, &mut journal, &rank) {
+    match drive(
+        alloc,
+        world,
+        None,
+        clouds.as_mut_slice(),
+        &mut out,
+        &mut journal,
+        &rank,
+    ) {
         Ok(after) => world = after,
-        Err(stop) => return Ok(Ran { journal, out, end: Some(stop) }),
+        Err(stop) => return Ok(Ran {
+            journal,
+            out,
+            end: Some(stop),
+        }),
     }
     for event in events.iter() {
-        match drive(alloc, world, Some(event), clouds.as_mut_slice(), &mut out, &mut journal, &rank) {
+        match drive(
+            alloc,
+            world,
+            Some(event),
+            clouds.as_mut_slice(),
+            &mut out,
+            &mut journal,
+            &rank,
+        ) {
             Ok(after) => world = after,
-            Err(stop) => return Ok(Ran { journal, out, end: Some(stop) }),
+            Err(stop) => return Ok(Ran {
+                journal,
+                out,
+                end: Some(stop),
+            }),
         }
     }
     Ok(Ran { journal, out, end })
@@ -121,7 +145,11 @@ fn one_cloud_fails_its_first_call(rt: HostRuntime) -> Result<(), Fail> {
     let lines = event_lines(rt.alloc(), ran.journal.written())?;
     let wanted = behind_header(rt.alloc(), EVENTS)?;
     assert_eq!(rt; lines.as_slice(), wanted.as_slice());
-    assert!(rt; ran.out.written().starts_with(b"2 changed 0.0.1\n3 ok 0 create 1\n"));
+    assert!(rt;
+        ran.out
+            .written()
+            .starts_with(b"2 changed 0.0.1\n3 ok 0 create 1\n")
+    );
     assert!(rt; ran.out.written().ends_with(b"\n18 closed 0 1 1\n"));
     Ok(())
 }
@@ -133,6 +161,9 @@ fn the_journal_fails_at_its_fifth_write(rt: HostRuntime) -> Result<(), Fail> {
     let text = "call 0 create /a\nspace 0\n 2 changed 0.0.1\ntold 0\n 3 ok 0 create 1\n";
     let wanted = behind_header(rt.alloc(), text)?;
     assert_eq!(rt; ran.journal.written(), wanted.as_slice());
-    assert_eq!(rt; ran.out.written(), b"2 changed 0.0.1\n3 ok 0 create 1\n".as_slice());
+    assert_eq!(rt;
+        ran.out.written(),
+        b"2 changed 0.0.1\n3 ok 0 create 1\n".as_slice()
+    );
     Ok(())
 }

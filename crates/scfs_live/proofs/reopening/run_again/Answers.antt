@@ -1,4 +1,4 @@
-use Rattle.std.proofs.Common.{ℕ, List, [], ◌++◌, refl, ap, ◌∙◌, sym, subst, arith, length-append, length-take}
+use Rattle.std.proofs.Common.{ℕ, [], ◌++◌, refl, ap, ◌∙◌, sym, subst, arith, length-append, length-take}
 use Rattle.scfs_policy.specs.declared.rank.RankFacts.{RankFacts}
 use Rattle.scfs_schedule.specs.Splitting.{Splitting, lines_of}
 use Rattle.scfs_live.specs.declared.ending.LiveEnd.TheVariants as ends

@@ -1,7 +1,4 @@
-use Rattle.std.proofs.Common.{ℕ, List, sym, subst, arith}
-use Rattle.scfs_policy.specs.declared.rank.RankFacts.{RankFacts}
-use Rattle.scfs_schedule.specs.Splitting.{Splitting}
-use Rattle.scfs_live.specs.Rereading.{IsSoFar}
+use Rattle.std.proofs.Common.{arith}
 use Rattle.scfs_live.proofs.FarLemmas.{far_line, far_next, far_none, far_stop}
 use Rattle.scfs_live.proofs.reopening.run_lines.Goals as goal
 

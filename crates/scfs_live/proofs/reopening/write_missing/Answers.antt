@@ -13,4 +13,4 @@ returns-in-Err-write_all-clause-ends g c =
     then_part old between new (mark_if c.args.unfinished) (awaited_text c.args.awaited.now)
     (same_puts old between c.mark_if.result.now (mark_if c.args.unfinished) c.mark_if.ensures c.in-Ok.ensures.bytes)
     (same_part between new c.as_slice.result.now (awaited_text c.args.awaited.now) (c.as_slice.ensures ∙ c.in_ok-text.ensures)
-        (record { front = part.0; back = part.1; whole = part.2; more = part.3; puts = part.4 }))
+    (record { front = part.0; back = part.1; whole = part.2; more = part.3; puts = part.4 }))

@@ -10,6 +10,7 @@ use crate::ending::LiveEnd;
 use crate::writing::write_all;
 use scfs_base::{Bytes, Memory, Sink};
 use scfs_schedule::{Event, Line, Which, push_event, push_line};
+use scfs_world::{Stepped, World};
 use std::alloc::Global;
 
 /// The lines of the event of this number, as they stand on out.
@@ -58,4 +59,27 @@ pub fn write_texts<J: Sink, O: Sink>(
         return Err(LiveEnd::WriteFault(Which::Out));
     }
     Ok(())
+}
+
+/// Writes the texts of the event that a world did last, both made before either is written, and gives the world.
+pub fn write_event<J: Sink, O: Sink>(
+    alloc: Global,
+    stepped: Stepped,
+    event: &Event,
+    out: &mut O,
+    journal: &mut J,
+) -> Result<World, LiveEnd>
+    ensures writes { Writes (J.written journal.old) (J.written journal.new) (O.written out.old) (O.written out.new)
+        (event_text event.now ++ 10 ∷ flat_map (kept_line stepped.world.events) stepped.lines) (flat_map (numbered stepped.world.events) stepped.lines) result }
+    ensures world { IfOk result (λ world. world ≡ stepped.world) }
+    ensures causes { HasCauses (J.faults journal.old) (J.faults journal.new) (O.faults out.old) (O.faults out.new) result }
+{
+    let Stepped { world, lines } = stepped;
+    let number = world.events();
+    let piece = piece_text(alloc, number, event, lines.as_slice())?;
+    let shown = shown_text(alloc, number, lines.as_slice())?;
+    match write_texts(journal, out, piece.as_slice(), shown.as_slice()) {
+        Ok(()) => Ok(world),
+        Err(end) => Err(end),
+    }
 }
