@@ -24,12 +24,9 @@ use Rattle.scfs_live.specs.Driving.{Driver, begins_with}
 use Rattle.scfs_live.specs.Keeping.{missing}
 use Rattle.scfs_live.specs.Recording.{WroteAll}
 use Rattle.scfs_live.specs.Reopened.{ReadsAll}
-use Rattle.scfs_live.specs.Finding.{found}
-use Rattle.scfs_live.specs.Reopening.{Follows, Walk, Walks}
+use Rattle.scfs_live.specs.Reopening.{Walk}
 use Rattle.scfs_live.specs.declared.ending.LiveEnd.{LiveEnd}
 use Rattle.scfs_live.specs.declared.ending.LiveEnd.TheVariants as lives
-use Rattle.scfs_live.specs.declared.finding.Found.{Found}
-use Rattle.scfs_live.specs.declared.finding.Found.TheVariants as founds
 use Rattle.scfs_live.proofs.AllAsked.{are_asked_no_more, are_asked_none}
 use Rattle.scfs_live.proofs.EdgeLemmas.{puts_nothing}
 use Rattle.scfs_cli.specs.declared.closing.Filled.TheVariants as filleds
@@ -346,20 +343,7 @@ counts_on allows header (Some event) past before after j j' o o' clouds clouds' 
     let some = not_none d.going.new (some_done (under header) event d.going.new past d.driver d.going.drove.driven d.settled) in
     omega (arith, same, some, d.going.stands.count, length-append d.going.new past)
 
--- an old journal that was run again has no more events than there may be
-follows_few : (found : Found) (old new : Walk) → Follows found old new → length old.past ≤ events_limit → length new.past ≤ events_limit
-follows_few founds.LeftOut old new is few = subst (λ (w : Walk). length w.past ≤ events_limit) (sym is) few
-follows_few founds.KeepsHeader old new is few = subst (λ (w : Walk). length w.past ≤ events_limit) (sym is) few
-follows_few founds.KeepsLine old new is few = subst (λ (w : Walk). length w.past ≤ events_limit) (sym is) few
-follows_few (founds.Does event) old new is few = subst (λ (w : Walk). length w.past ≤ events_limit) (sym is.2.2) is.1
-follows_few (founds.Differs kept made) old new is few = absurd is
-follows_few (founds.Wrong kind) old new is few = absurd is
-
-pub walks_few : (header : Header) (lines : List (List ℕ)) (old new : Walk) → Walks header old lines new → length old.past ≤ events_limit → length new.past ≤ events_limit
-walks_few header [] old new walks few = subst (λ (w : Walk). length w.past ≤ events_limit) (sym walks) few
-walks_few header (line ∷ lines) old new walks few =
-    walks_few header lines walks.0 new walks.2 (follows_few (found header old.awaited line) old walks.0 walks.1 few)
-
+-- one end for one reason
 pub same_why : (why other : LiveEnd) → runs.Stopped why ≡ runs.Stopped other → why ≡ other
 same_why why other h = cc
 

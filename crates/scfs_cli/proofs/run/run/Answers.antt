@@ -10,14 +10,12 @@ use Rattle.scfs_model.specs.UnitFormat.{under}
 use Rattle.scfs_live.specs.Able.{CanBeGiven}
 use Rattle.scfs_live.specs.Asked.{told}
 use Rattle.scfs_live.specs.Driving.{begins_with}
-use Rattle.scfs_live.specs.Reopened.{old_lines}
-use Rattle.scfs_live.specs.Reopening.{unwalked}
 use Rattle.scfs_live.specs.declared.ending.LiveEnd.TheVariants as lives
 use Rattle.scfs_cli.specs.declared.stopping.RunEnd.{RunEnd}
 use Rattle.scfs_cli.specs.declared.stopping.RunEnd.TheVariants as runs
 use Rattle.scfs_cli.specs.Scripting.{script_of}
 use Rattle.scfs_cli.specs.Underway.{EndsScript}
-use Rattle.scfs_cli.proofs.UnderwayLemmas.{begins, counts_on, drove_on, drove_to, ended, fewer, given_next, known_of, one_if_none, reads_open, rose_since, runs_on, same_why, states, walks_few}
+use Rattle.scfs_cli.proofs.UnderwayLemmas.{begins, counts_on, drove_on, drove_to, ended, fewer, given_next, known_of, one_if_none, reads_open, rose_since, runs_on, same_why, states}
 use Rattle.scfs_cli.proofs.run.run.Goals as goal
 
 pub returns-in-Err-reopen-clause-runs : goal.returns-in-Err-reopen-clause-runs
@@ -55,11 +53,7 @@ events-init g c =
       can = tt;
       is = c.in-Ok.ensures.header.0;
       world = c.in-Ok-reopen.ensures.world;
-      few = omega (
-        arith,
-        reopens.stands.count,
-        walks_few c.in-Ok.header (old_lines reopens.taken).lines (unwalked c.in-Ok.header) reopens.place reopens.reads.runs.runs.walks (omega arith),
-      );
+      few = c.in-Ok-reopen.ensures.room;
       many = c.requires.clouds;
       later_out = omega arith;
       later_journal = c.in-Ok-reopen.ensures.later_writes;
