@@ -2,6 +2,8 @@
 //! transcript to standard output.
 #![tactic(auto)]
 
+#[cfg(test)]
+mod alone;
 mod built;
 mod call;
 mod closing;
