@@ -1,0 +1,4 @@
+pub mod Cutting
+pub mod Asking
+pub mod InMemory
+pub mod Folder
