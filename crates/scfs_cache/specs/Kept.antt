@@ -17,7 +17,9 @@ Answers V = List (List ℕ × Kept V)
 -- such answers are stored as moments and values
 abbrev pub answers_code : {V : Type 0} → Coded V → Coded (Answers V)
 answers_code {V} v =
-    coded_list (coded× (coded_list coded_ℕ) (code_by (ℕ × V) (coded× coded_ℕ v) (λ (a : Kept V). (a.moment, a.value)) (λ p. record { moment = p.0; value = p.1 }) (λ _. refl)))
+    coded_list (coded× (coded_list coded_ℕ)
+    (code_by (ℕ × V) (coded× coded_ℕ v)
+    (λ (answer : Kept V). (answer.moment, answer.value)) (λ p. record { moment = p.0; value = p.1 }) (λ _. refl)))
 
 module _ {V : Type 0} where
   -- an answer, where it is younger than `stale`

@@ -1,15 +1,10 @@
 -- Lists by last use: each key once, the most recently used first.
-use Rattle.std.specs.Prelude.{ℕ, List, [], ◌∷◌, take, filter, Bool, not, Option, Some, None, refl}
-use Rattle.std.specs.Coded.{Coded, code_by, coded×, coded_list, coded_ℕ}
+use Rattle.std.specs.Prelude.{ℕ, List, [], ◌∷◌, take, filter, Bool, not, Option, Some, None}
 
 -- entries by their keys, the most recently used first, and how many there may be
 pub record Recent (K V : Type 0) : Type 0 where
   pub most : ℕ
   pub entries : List (K × V)
-
--- such entries are stored as the pair of the fields
-abbrev pub recent_code : {K V : Type 0} → Coded K → Coded V → Coded (Recent K V)
-recent_code k v = code_by (ℕ × List (_ × _)) (coded× coded_ℕ (coded_list (coded× k v))) (λ r. (r.most, r.entries)) (λ p. record { most = p.0; entries = p.1 }) (λ _. refl)
 
 module _ {K V : Type 0} (same : K → K → Bool) where
   -- the list without a key's entry

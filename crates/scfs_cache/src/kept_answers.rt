@@ -70,7 +70,8 @@ impl KeptAnswers {
     /// The answer to a list of this path, which is a use of it, exactly where one is kept and `now` minus its moment is below
     /// `stale`. None changes nothing, nor does an error.
     pub fn list(&mut self, path: &[u8], now: u64, stale: u64) -> Result<Option<NameList>, Memory>
-        ensures answer { IfOk result (λ names. names ≡ option_map (λ (answer : Kept _). answer.value) (fresh self.old.lists path.now now stale)) }
+        ensures answer { IfOk result (λ names.
+            names ≡ option_map (λ (answer : Kept _). answer.value) (fresh self.old.lists path.now now stale)) }
         ensures after { OnOk result (self.new ≡ record self.old { lists = after_asking self.old.lists path.now now stale }) }
         ensures err { OnErr result (self.new ≡ self.old) }
     {

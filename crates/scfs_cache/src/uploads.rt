@@ -78,7 +78,9 @@ impl RecentUploads {
 
     /// Keeps the contents of an upload, in place of those that were kept of it.
     pub(crate) fn keep(&mut self, upload: &UploadNo, contents: &[u8]) -> Result<(), Memory>
-        ensures after { OnOk result (self.new ≡ record self.old { entries = used same_upload self.old.most upload.now contents.now self.old.entries }) }
+        ensures after { OnOk result (self.new ≡ record self.old {
+          entries = used same_upload self.old.most upload.now contents.now self.old.entries;
+        }) }
         ensures err { OnErr result (self.new ≡ self.old) }
     {
         let _held = self.lru.len();
