@@ -20,16 +20,18 @@ by_set : (f : ℕ) (acked : Clouds) (cloud : ℕ) (known : Bool) → set.contain
     ≡ (if known then Already else if set.len acked + 1 == 2 * f + 1 then Done else Counted (set.len acked + 1))
 by_set f acked cloud true is = refl
 by_set f acked cloud false is =
-    let more : set.len (set.insert acked cloud) ≡ set.len acked + 1 = set.len-insert nat_cmp_total acked cloud ∙ ap (λ b. cond b (set.len acked) (set.len acked + 1)) is in
+    let more : set.len (set.insert acked cloud) ≡ set.len acked + 1 =
+    set.len-insert nat_cmp_total acked cloud ∙ ap (λ b. cond b (set.len acked) (set.len acked + 1)) is in
     rw (more, is_last f (set.len acked)) refl
 
-by_parts : (f cloud : ℕ) (parts : List Clouds) → length parts ≡ 1 → let acks : Acks = record { f = f; parts = parts } in (upload : UploadNo) (turns : ℕ)
-    → progress acks cloud 0 ≡ brought (record { upload = upload; f = f; acked = clouds_of acks 0; turns = turns }) cloud
-by_parts f cloud [] one upload turns = cc
-by_parts f cloud (acked ∷ []) one upload turns = by_set f acked cloud (set.contains acked cloud) refl
-by_parts f cloud (acked ∷ other ∷ others) one upload turns = cc
+by_parts : (f cloud : ℕ) (parts : List Clouds) (upload : UploadNo) (turns : ℕ) → length parts ≡ 1
+    → let acks : Acks = record { f = f; parts = parts } in
+    progress acks cloud 0 ≡ brought (record { upload = upload; f = f; acked = clouds_of acks 0; turns = turns }) cloud
+by_parts f cloud [] upload turns one = cc
+by_parts f cloud (acked ∷ []) upload turns one = by_set f acked cloud (set.contains acked cloud) refl
+by_parts f cloud (acked ∷ other ∷ others) upload turns one = cc
 
 -- what an acknowledgement of the one part brings
 pub progress-brought : (acks : Acks) (cloud : ℕ) (upload : UploadNo) (turns : ℕ) → length acks.parts ≡ 1
     → progress acks cloud 0 ≡ brought (record { upload = upload; f = acks.f; acked = clouds_of acks 0; turns = turns }) cloud
-progress-brought acks cloud upload turns one = by_parts acks.f cloud acks.parts one upload turns
+progress-brought acks cloud upload turns one = by_parts acks.f cloud acks.parts upload turns one

@@ -1,4 +1,5 @@
-ghost use Rattle.std.specs.Prelude.{◌≡◌, ◌+◌, ◌*◌, ◌<◌, ◌≤◌, ◌^◌, [], ◌∷◌, ◌++◌, length, None, IfOk, OnOk, OnErr, IfSome, IsSome, option_map};
+ghost use Rattle.std.specs.Prelude.{◌≡◌, ◌+◌, ◌*◌, ◌<◌, ◌≤◌, ◌^◌, [], ◌∷◌, ◌++◌, length, None, option_map};
+ghost use Rattle.std.specs.Prelude.{IfOk, OnOk, OnErr, IfSome, IsSome};
 ghost use Rattle.std.specs.Option.{option_copied, ForSome};
 ghost use Rattle.scfs_base.specs.Limits.{contents_limit};
 ghost use Rattle.scfs_upload.specs.Uploading.{Uploading, brought, with_ack, with_turn};
@@ -23,8 +24,6 @@ pub struct UploadQueue {
 }
 
 impl Model for UploadQueue {
-    ghost use Rattle.std.specs.Prelude.{◌≤◌, ◌<◌, length, All, IsSome};
-    ghost use Rattle.scfs_base.specs.Limits.{contents_limit};
     ghost use Rattle.scfs_upload.specs.Queue.{Queue};
     ghost use Rattle.scfs_upload.specs.Codes.{queue_code};
 
@@ -32,9 +31,11 @@ impl Model for UploadQueue {
 
     ghost coded = { queue_code };
 
+    ghost use Rattle.scfs_upload.specs.Inside.{IsInForm};
+
     ghost view = { λ queue. record { closed = queue.closed.items; uploading = queue.uploading } };
 
-    ghost invariant = { λ queue. All (λ it. length it.contents ≤ contents_limit) queue.closed.items × (IsSome queue.uploading → 0 < length queue.closed.items) };
+    ghost invariant = { IsInForm };
 }
 
 impl UploadQueue {
