@@ -1,0 +1,4 @@
+pub mod LastUses
+pub mod PathKeys
+pub mod Shown
+pub mod UploadKeys
