@@ -8,6 +8,8 @@ use Rattle.scfs_schedule.specs.declared.types.Header.{Header}
 use Rattle.scfs_schedule.specs.Reading.{Read, Reading, IsAtEvents, gives, read, stopped, unfinished, with_event, with_header}
 use Rattle.scfs_model.specs.History.{Entry, History, transcript}
 use Rattle.scfs_world.specs.Built.{is_built_header}
+use Rattle.scfs_world.specs.Happening.{Stands}
+use Rattle.scfs_world.specs.State.{WorldState}
 use Rattle.scfs_cli.specs.declared.closing.Filled.{Filled}
 use Rattle.scfs_cli.specs.declared.closing.Filled.TheVariants as filleds
 use Rattle.scfs_cli.specs.declared.closing.Finish.{Finish}
@@ -21,7 +23,7 @@ use Rattle.scfs_cli.specs.Edges.{GetsPart, Passes}
 use Rattle.scfs_cli.specs.Finishing.{EndsWith, IsTooLargeNext}
 use Rattle.scfs_cli.specs.Giving.{Draws, GivesNext, WaitedFor}
 use Rattle.scfs_cli.specs.Playing.{Playing, before_event, events_played, finish_at, finished, header_lines, played, under_header, unless_finished}
-use Rattle.scfs_cli.specs.Plays.{IsNext, Known, Plays, Ran, SoFar, entry_text, finish_of, with_past}
+use Rattle.scfs_cli.specs.Plays.{IsNext, Known, Plays, PlaysTo, Ran, SoFar, entry_text, finish_of, with_past}
 use Rattle.scfs_cli.proofs.EdgeLemmas.{passes_part, passes_then, then_part}
 use Rattle.scfs_cli.proofs.PaceLemmas.{pace_event, pace_out}
 use Rattle.scfs_cli.proofs.PlayedLemmas.{AllPlayed, Leads, Says, after_past, ends_finished, ends_large, ends_part, leads, leads_to_end, leads_to_event, states_header}
@@ -109,6 +111,12 @@ module _ (allows : RankFacts → ℕ → Type 0) (left now next before b after :
         (ends_finished allows (read false taken) header past (finishes.Text ending) to)
         (ran left next before after w' taken past result asked (λ is. let f = draws.full is in omega (arith, f, going.so_far.room, length-append going.so_far.taken drew.more))
         draws.nothing_left counts asked.wrote)
+
+    -- and its world is left
+    pub leaves_end : (ending : Ending) (filled : Filled) (count : ℕ) (world : WorldState) → given ≡ givens.Ended ending filled → count ≡ length past → Stands world header past
+        → PlaysTo allows left next before after w' (record { played = playeds.Ended count (finishes.Text ending) filled; world = Some world })
+    unfolding plays_by plays_end
+    leaves_end ending filled count world is counts stands = record { plays = plays_end ending filled count is counts; leaves = stands; whole = λ e. refl }
 
     -- an event came in the line of this number, behind so many others
     module _ (event : Event) (line count : ℕ) (is : given ≡ givens.Event event) (lines : line ≡ new.reader.lines) (counts : count ≡ length past)

@@ -1,9 +1,15 @@
 pub mod ClosingLemmas
+pub mod DumpLemmas
+pub mod DumpedTree
+pub mod DumpingLemmas
 pub mod EdgeLemmas
 pub mod GivingLemmas
 pub mod GoingLemmas
+pub mod HeaderFirst
+pub mod LeavingLemmas
 pub mod PaceLemmas
 pub mod PlayedLemmas
 pub mod ReplayLemmas
+pub mod RisingLemmas
 pub mod RunLemmas
 pub mod TurnLemmas

@@ -1,13 +1,17 @@
 -- What a run comes to once nothing waits, and with its last line.
 use Rattle.std.proofs.Common.{◌≡◌, ◌≢◌, ℕ, List, [], ◌∷◌, ◌++◌, false, refl, ap, ◌∙◌, sym, subst, ⊎_elim, Option, Some, None, length, append-nil}
+use Rattle.std.specs.Prelude.{IsSome}
 use Rattle.scfs_base.specs.Outside.{Puts}
 use Rattle.scfs_policy.specs.declared.rank.RankFacts.{RankFacts}
+use Rattle.scfs_schedule.specs.declared.types.Ending.TheVariants as endings
 use Rattle.scfs_schedule.specs.declared.types.Header.{Header}
 use Rattle.scfs_schedule.specs.Reading.{read}
 use Rattle.scfs_model.specs.History.{History, transcript}
+use Rattle.scfs_world.specs.State.{WorldState}
 use Rattle.scfs_cli.specs.declared.closing.Filled.{Filled}
 use Rattle.scfs_cli.specs.declared.closing.Filled.TheVariants as filleds
 use Rattle.scfs_cli.specs.declared.closing.Finish.{Finish}
+use Rattle.scfs_cli.specs.declared.closing.Finish.TheVariants as finishes
 use Rattle.scfs_cli.specs.declared.closing.LastLine.{LastLine}
 use Rattle.scfs_cli.specs.declared.closing.Status.{Status}
 use Rattle.scfs_cli.specs.declared.closing.Status.TheVariants as statuses
@@ -19,7 +23,7 @@ use Rattle.scfs_cli.specs.Finishing.{EndsWith}
 use Rattle.scfs_cli.specs.Giving.{Tells}
 use Rattle.scfs_cli.specs.Headline.{Closes, GetsText, IsStatus, ReplaysInput, last_line}
 use Rattle.scfs_cli.specs.Playing.{Playing, played}
-use Rattle.scfs_cli.specs.Plays.{Plays, WroteBy, filled_of, finish_of}
+use Rattle.scfs_cli.specs.Plays.{Leaves, Plays, PlaysTo, WroteBy, filled_of, finish_of}
 use Rattle.scfs_cli.proofs.ClosingLemmas.{line_behind, part_behind, status_behind}
 use Rattle.scfs_cli.proofs.EdgeLemmas.{front_of_more, passes_all, passes_on, passes_put, puts_more, puts_nothing, then_part}
 use Rattle.scfs_cli.proofs.PaceLemmas.{pace_out}
@@ -38,7 +42,7 @@ wrote_all playeds.WriteFault past before after w others wrote = absurd (others r
 wrote_all playeds.Memory past before after w others wrote = wrote
 
 -- a history that ends what is played has the first of its events
-first_events : (allows : RankFacts → ℕ → Type 0) (header : Header) (past : History) (playing : Playing) (finish : Option Finish)
+pub first_events : (allows : RankFacts → ℕ → Type 0) (header : Header) (past : History) (playing : Playing) (finish : Option Finish)
     → EndsWith allows header past playing finish → EndsWith allows header past playing None
 first_events allows header past playing None ends = ends
 first_events allows header past playing (Some finish) ends = ⊎_elim (λ all. ([], all.0)) (λ large. (large.1.0 ∷ large.1.1, large.1.2)) ends
@@ -66,6 +70,12 @@ module _ (allows : RankFacts → ℕ → Type 0) (left now before b after : Opti
         ends = plays.ends;
         known = plays.known;
       }
+
+  -- and a world is left
+  pub flushed_to : (world : Option WorldState) → Leaves world plays.header plays.past → (finish_of result ≡ Some (finishes.Text endings.Ended) → IsSome world)
+      → result ≢ playeds.WriteFault → Puts b after w → PlaysTo allows left now before after [] (record { played = result; world = world })
+  unfolding plays_flushed
+  flushed_to world leaves whole others puts = record { plays = plays_flushed others puts; leaves = leaves; whole = whole }
 
   -- or not all of it
   pub plays_cut : result ≢ playeds.WriteFault → GetsPart b after w → Plays allows left now before after [] playeds.WriteFault

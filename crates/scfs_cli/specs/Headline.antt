@@ -1,5 +1,4 @@
-use Rattle.std.specs.Prelude.{◌≡◌, ◌≤◌, ℕ, ◌+◌, List, [], ◌∷◌, ◌++◌, codes, Bool, false, length, Option, Some, None, IfSome}
-use Rattle.std.specs.Str.{bytes_eq}
+use Rattle.std.specs.Prelude.{◌≡◌, ◌≤◌, ℕ, ◌+◌, List, [], ◌++◌, false, length, Option, Some, None, IfSome}
 use Rattle.scfs_base.specs.Limits.{input_limit}
 use Rattle.scfs_base.specs.Outside.{Takes, Puts, Rose}
 use Rattle.scfs_schedule.specs.declared.types.Header.{Header}
@@ -44,22 +43,20 @@ IsStatus statuses.TooLarge closing = statuses.TooLarge ≡ closing_status closin
 IsStatus statuses.WriteFault closing = Unit {0}
 IsStatus statuses.Memory closing = closing ≡ None
 
--- the words of the one command: `replay` alone
-abbrev pub is_replay : List (List ℕ) → Bool
-is_replay [] = false
-is_replay (word ∷ []) = bytes_eq word (codes "replay")
-is_replay (word ∷ next ∷ rest) = false
+-- a text that ends with this last line was written, and the line gives the status; or writing it failed, and not all of it was written;
+-- or memory was wanting, and nothing of it was
+abbrev pub ClosesWith : List ℕ → LastLine → Option (List ℕ) → Option (List ℕ) → Status → Type 0
+ClosesWith text last before after statuses.Done = Puts before after text × (statuses.Done ≡ status_of last)
+ClosesWith text last before after statuses.Usage = Puts before after text × (statuses.Usage ≡ status_of last)
+ClosesWith text last before after statuses.BadInput = Puts before after text × (statuses.BadInput ≡ status_of last)
+ClosesWith text last before after statuses.ReadFault = Puts before after text × (statuses.ReadFault ≡ status_of last)
+ClosesWith text last before after statuses.TooLarge = Puts before after text × (statuses.TooLarge ≡ status_of last)
+ClosesWith text last before after statuses.WriteFault = GetsPart before after text
+ClosesWith text last before after statuses.Memory = Puts before after []
 
--- the last line was written and gives the status; or writing it failed, and not all of it was written; or memory was wanting, and
--- nothing of it was
+-- so it is of the last line alone
 abbrev pub Closes : LastLine → Option (List ℕ) → Option (List ℕ) → Status → Type 0
-Closes last before after statuses.Done = Puts before after (last_line_text last) × (statuses.Done ≡ status_of last)
-Closes last before after statuses.Usage = Puts before after (last_line_text last) × (statuses.Usage ≡ status_of last)
-Closes last before after statuses.BadInput = Puts before after (last_line_text last) × (statuses.BadInput ≡ status_of last)
-Closes last before after statuses.ReadFault = Puts before after (last_line_text last) × (statuses.ReadFault ≡ status_of last)
-Closes last before after statuses.TooLarge = Puts before after (last_line_text last) × (statuses.TooLarge ≡ status_of last)
-Closes last before after statuses.WriteFault = GetsPart before after (last_line_text last)
-Closes last before after statuses.Memory = Puts before after []
+Closes last before after status = ClosesWith (last_line_text last) last before after status
 
 -- the last line after a history of so many events; none where playing had no finish, or memory was wanting for the last line
 abbrev pub last_line : ℕ → Option Finish → Filled → Option LastLine

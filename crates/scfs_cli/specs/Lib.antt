@@ -1,4 +1,7 @@
 pub mod Closing
+pub mod Command
+pub mod Dump
+pub mod Dumping
 pub mod Edges
 pub mod Finishing
 pub mod Giving
@@ -6,3 +9,4 @@ pub mod Headline
 pub mod Pace
 pub mod Playing
 pub mod Plays
+pub mod TreeRows

@@ -1,8 +1,9 @@
-use Rattle.std.specs.Prelude.{◌≡◌, ◌≤◌, ℕ, ◌+◌, List, [], ◌∷◌, ◌++◌, false, length, Option, Some, None, IfSome, Result, Ok, Err}
+use Rattle.std.specs.Prelude.{◌≡◌, ◌≤◌, ℕ, ◌+◌, List, [], ◌∷◌, ◌++◌, false, length, Option, Some, None, IfSome, IsSome, Result, Ok, Err}
 use Rattle.std.specs.List.{flat_map}
 use Rattle.scfs_base.specs.Limits.{input_limit}
 use Rattle.scfs_base.specs.Outside.{Takes}
 use Rattle.scfs_policy.specs.declared.rank.RankFacts.{RankFacts}
+use Rattle.scfs_schedule.specs.declared.types.Ending.TheVariants as endings
 use Rattle.scfs_schedule.specs.declared.types.Event.{Event}
 use Rattle.scfs_schedule.specs.declared.types.Header.{Header}
 use Rattle.scfs_schedule.specs.Reading.{IsAtEvents, Read, gives, read, with_header}
@@ -18,9 +19,11 @@ use Rattle.scfs_world.specs.State.{WorldState}
 use Rattle.scfs_cli.specs.declared.closing.Filled.{Filled}
 use Rattle.scfs_cli.specs.declared.closing.Filled.TheVariants as filleds
 use Rattle.scfs_cli.specs.declared.closing.Finish.{Finish}
+use Rattle.scfs_cli.specs.declared.closing.Finish.TheVariants as finishes
 use Rattle.scfs_cli.specs.declared.intake.Intake.{Intake}
 use Rattle.scfs_cli.specs.declared.play.Played.{Played}
 use Rattle.scfs_cli.specs.declared.play.Played.TheVariants as playeds
+use Rattle.scfs_cli.specs.declared.play.Playout.{Playout}
 use Rattle.scfs_cli.specs.declared.play.Turn.{Turn}
 use Rattle.scfs_cli.specs.declared.play.Turn.TheVariants as turns
 use Rattle.scfs_cli.specs.Edges.{GetsPart, Passes}
@@ -134,3 +137,14 @@ pub record Plays (allows : RankFacts → ℕ → Type 0) (left left' before afte
   pub stated : IfSome (played (read false taken)).header (λ stated. stated ≡ header)
   pub ends : EndsWith allows header past (played (read false taken)) (finish_of result)
   pub known : Known allows header past
+
+-- a world that is left stands for the history
+abbrev pub Leaves : Option WorldState → Header → History → Type 0
+Leaves None header past = Unit {0}
+Leaves (Some world) header past = Stands world header past
+
+-- playing the text on an input, and the world that is left: there is one where the text was played to its end
+pub record PlaysTo (allows : RankFacts → ℕ → Type 0) (left left' before after : Option (List ℕ)) (waiting : List ℕ) (result : Playout) : Type 0 where
+  pub plays : Plays allows left left' before after waiting result.played
+  pub leaves : Leaves result.world plays.header plays.past
+  pub whole : finish_of result.played ≡ Some (finishes.Text endings.Ended) → IsSome result.world

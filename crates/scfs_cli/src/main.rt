@@ -1,5 +1,5 @@
-//! `scfs` replays a recorded schedule of a shared file system: it reads the schedule from standard input and writes the
-//! transcript to standard output.
+//! `scfs` plays a recorded schedule of a shared file system: it reads the schedule from standard input and writes its transcript, or the
+//! tree that it leaves, to standard output.
 #![tactic(auto)]
 
 #[cfg(test)]
@@ -7,6 +7,10 @@ mod alone;
 mod built;
 mod call;
 mod closing;
+mod command;
+mod dump;
+#[cfg(test)]
+mod dumped;
 mod edges;
 mod intake;
 mod limits;
@@ -20,6 +24,7 @@ mod rows;
 mod streams;
 #[cfg(test)]
 mod tests;
+mod tree_rows;
 mod waiting;
 
 use call::scfs;

@@ -15,7 +15,7 @@ ghost use Rattle.scfs_world.specs.Stepping.{IsShown, IsWorld};
 ghost use Rattle.scfs_cli.specs.Edges.{GetsPart, Passes};
 ghost use Rattle.scfs_cli.specs.Giving.{IsFresh, Tells};
 ghost use Rattle.scfs_cli.specs.Playing.{finish_at, played};
-ghost use Rattle.scfs_cli.specs.Plays.{EndsAtOnce, Plays, Ran, SoFar, Turns, filled_at_begin, filled_of, finish_of, finish_of_turn};
+ghost use Rattle.scfs_cli.specs.Plays.{EndsAtOnce, PlaysTo, Ran, SoFar, Turns, filled_at_begin, filled_of, finish_of, finish_of_turn};
 ghost use Rattle.scfs_cli.specs.declared.closing.Finish.{Finish};
 
 use crate::built::finish_at;
@@ -38,6 +38,13 @@ pub enum Played {
     Ended(u64, Finish, Filled),
     WriteFault,
     Memory,
+}
+
+/// How playing a schedule ended, and the world that it left where its text was played to the end.
+#[derive(Drop)]
+pub struct Playout {
+    pub played: Played,
+    pub world: Option<World>,
 }
 
 /// How one event's turn ended: its lines wait or are written, and this is the world now; or it ends what is played and nothing was
@@ -172,6 +179,16 @@ fn begin<I: Source, O: Sink>(
     }
 }
 
+/// Playing ended so, and no world is kept.
+fn without_world(played: Played) -> Playout
+    ensures { result ≡ record { played = played; world = None } }
+{
+    Playout {
+        played,
+        world: None,
+    }
+}
+
 /// Plays the text on the input; of its lines some wait.
 fn play_text<I: Source, O: Sink, R: Fn(RankFacts) -> u64>(
     alloc: Global,
@@ -179,12 +196,12 @@ fn play_text<I: Source, O: Sink, R: Fn(RankFacts) -> u64>(
     rank: &RankRule<R>,
     waiting: &mut Waiting,
     out: &mut O,
-) -> Played
+) -> Playout
     requires nothing { waiting.old ≡ [] }
     requires rank { IsRankRule (R.pre rank.now) }
-    ensures plays { Plays (R.post rank.now) (I.left input.old) (I.left input.new) (O.written out.old) (O.written out.new) waiting.new result }
-    ensures tells { Tells (I.ends input.old) (I.ends input.new) (I.faults input.old) (I.faults input.new) (filled_of result) }
-    ensures fault { result ≡ Played.WriteFault → Rose (O.faults out.old) (O.faults out.new) }
+    ensures plays { PlaysTo (R.post rank.now) (I.left input.old) (I.left input.new) (O.written out.old) (O.written out.new) waiting.new result }
+    ensures tells { Tells (I.ends input.old) (I.ends input.new) (I.faults input.old) (I.faults input.new) (filled_of result.played) }
+    ensures fault { result.played ≡ Played.WriteFault → Rose (O.faults out.old) (O.faults out.new) }
     ensures later { O.faults out.old ≤ O.faults out.new }
 {
     no_clash_before();
@@ -194,25 +211,32 @@ fn play_text<I: Source, O: Sink, R: Fn(RankFacts) -> u64>(
     let mut intake = Intake::new(alloc);
     let mut world = match begin(alloc, &mut intake, input, waiting, out) {
         Ok(world) => world,
-        Err(played) => return played,
+        Err(played) => return without_world(played),
     };
     'events: loop {
         let count = world.events();
         let event = match intake.next(input, waiting, out) {
-            Err(Failed) => return Played::WriteFault,
-            Ok(Given::Memory) => return Played::Memory,
+            Err(Failed) => return without_world(Played::WriteFault),
+            Ok(Given::Memory) => return without_world(Played::Memory),
             Ok(Given::Ended(ending, filled)) => {
-                return Played::Ended(count, Finish::Text(ending), filled);
+                return Playout {
+                    played: Played::Ended(count, Finish::Text(ending), filled),
+                    world: Some(world),
+                };
             }
             Ok(Given::Header(_)) => unreachable!(),
             Ok(Given::Event(event)) => event,
         };
         match play_event(alloc, intake.line(), world, event, rank, waiting, out) {
             Turn::Done(after) => world = after,
-            Turn::Finished(finish) => return Played::Ended(count, finish, Filled::Open),
-            Turn::TooLarge => return Played::Ended(count, Finish::Objects, Filled::Open),
-            Turn::WriteFault => return Played::WriteFault,
-            Turn::Memory => return Played::Memory,
+            Turn::Finished(finish) => {
+                return without_world(Played::Ended(count, finish, Filled::Open));
+            }
+            Turn::TooLarge => {
+                return without_world(Played::Ended(count, Finish::Objects, Filled::Open));
+            }
+            Turn::WriteFault => return without_world(Played::WriteFault),
+            Turn::Memory => return without_world(Played::Memory),
         }
     }
 }
@@ -223,19 +247,20 @@ pub fn play<I: Source, O: Sink, R: Fn(RankFacts) -> u64>(
     input: &mut I,
     rank: &RankRule<R>,
     out: &mut O,
-) -> Played
+) -> Playout
     requires rank { IsRankRule (R.pre rank.now) }
-    ensures plays { Plays (R.post rank.now) (I.left input.old) (I.left input.new) (O.written out.old) (O.written out.new) [] result }
-    ensures tells { Tells (I.ends input.old) (I.ends input.new) (I.faults input.old) (I.faults input.new) (filled_of result) }
-    ensures fault { result ≡ Played.WriteFault → Rose (O.faults out.old) (O.faults out.new) }
+    ensures plays { PlaysTo (R.post rank.now) (I.left input.old) (I.left input.new) (O.written out.old) (O.written out.new) [] result }
+    ensures tells { Tells (I.ends input.old) (I.ends input.new) (I.faults input.old) (I.faults input.new) (filled_of result.played) }
+    ensures fault { result.played ≡ Played.WriteFault → Rose (O.faults out.old) (O.faults out.new) }
     ensures later { O.faults out.old ≤ O.faults out.new }
 {
     let mut waiting = Waiting::new(alloc);
-    match play_text(alloc, input, rank, &mut waiting, out) {
-        Played::WriteFault => Played::WriteFault,
+    let Playout { played, world } = play_text(alloc, input, rank, &mut waiting, out);
+    match played {
+        Played::WriteFault => without_world(Played::WriteFault),
         played => match waiting.flush(out) {
-            Ok(()) => played,
-            Err(Failed) => Played::WriteFault,
+            Ok(()) => Playout { played, world },
+            Err(Failed) => without_world(Played::WriteFault),
         },
     }
 }

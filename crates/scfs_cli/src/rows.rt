@@ -24,7 +24,7 @@ const TRIO: &str = "\
     agent 2 blocking 0000000000000000000000000000000000000000000000000000000000000000\nbegin\n";
 
 /// Agent 0 makes a file, opens it for writing, writes and closes.
-const BEGIN: &str = "\
+pub const BEGIN: &str = "\
     call 0 create /a\nspace 0\ntold 0\ncall 0 open /a w\nspace 0\ntold 0\ncall 0 write 1 0 6869\n\
     call 0 close 1\n";
 
@@ -37,7 +37,7 @@ const BEGUN: &str = "\
     8 put 0.0.6 3 u/0000000000000001/0000 170 0211b39e3411be2320e8498e5d5be2d16c1f6909fb2e490739729e1bdc340a17\n";
 
 /// All clouds store its objects, and the close is completed.
-const CLOSE: &str =
+pub const CLOSE: &str =
     "serve 0\nserve 1\nserve 2\nserve 3\ngive 0\ngive 1\ngive 2\ngive 3\nspace 0\ntold 0\n";
 
 const CLOSED: &str = "\

@@ -155,7 +155,9 @@ fn expect_usage(rt: &(impl Abort + AllocGlobal), words: &[&str]) -> Result<(), F
 #[test]
 fn refuses_other_words(rt: HostRuntime) -> Result<(), Fail> {
     expect_usage(&rt, &["replay", "now"])?;
+    expect_usage(&rt, &["dump", "dump"])?;
     expect_usage(&rt, &["play"])?;
+    expect_usage(&rt, &["dumps"])?;
     expect_usage(&rt, &[])
 }
 

@@ -1,0 +1,47 @@
+use Rattle.std.proofs.Common.{List, ℕ, Some, subst, sym}
+use Rattle.scfs_model.specs.Runs.{actual}
+use Rattle.scfs_model.specs.UnitFormat.{under}
+use Rattle.scfs_cli.specs.Dumping.{IsOutput}
+use Rattle.scfs_cli.specs.declared.play.Played.TheVariants as playeds
+use Rattle.scfs_cli.proofs.DumpingLemmas.{dumps_closed, dumps_nothing, last_is_whole}
+use Rattle.scfs_cli.proofs.EdgeLemmas.{puts_nothing}
+use Rattle.scfs_cli.proofs.LeavingLemmas.{left_shows, played_so, tells_so}
+use Rattle.scfs_cli.proofs.call.dump.Goals as goal
+
+pub output-requires : goal.output-requires
+output-requires g c =
+    let end = playeds.Ended c.in-Ended.events c.in-Ended.finish c.in-Ended.filled in
+    let to = played_so _ _ _ _ _ _ c.play-played.result end c.in-Ended.is c.play-played.ensures.plays in
+    last_is_whole c.in-Some.last c.in-Ended.events c.in-Ended.finish c.in-Ended.filled c.play-played.result.world c.in-Some.ensures to.whole
+
+pub returns-in-Memory-clause-dumps : goal.returns-in-Memory-clause-dumps
+returns-in-Memory-clause-dumps g c =
+    let to = played_so _ _ _ _ _ _ c.play-played.result playeds.Memory c.in-Memory.is c.play-played.ensures.plays in
+    dumps_nothing _ _ _ _ _ _ _ _ _ playeds.Memory to.plays (tells_so _ _ _ _ c.play-played.result.played playeds.Memory c.in-Memory.is c.play-played.ensures.tells)
+    (puts_nothing (g.O.Sink.written c.args.out.now))
+
+pub returns-in-Ok-clause-dumps : goal.returns-in-Ok-clause-dumps
+returns-in-Ok-clause-dumps g c =
+    let last = c.in-Some.last in
+    let end = playeds.Ended c.in-Ended.events c.in-Ended.finish c.in-Ended.filled in
+    let to = played_so _ _ _ _ _ _ c.play-played.result end c.in-Ended.is c.play-played.ensures.plays in
+    let header = to.plays.header in
+    let past = to.plays.past in
+    let output = c.in-Ok.ensures (actual (under header) past) (left_shows c.play-played.result.world header past to.leaves) in
+    dumps_closed _ _ _ _ _ _ _ _ _ c.in-Ended.events c.in-Ended.finish c.in-Ended.filled to.plays
+    (tells_so _ _ _ _ c.play-played.result.played end c.in-Ended.is c.play-played.ensures.tells) last c.in-Some.ensures c.as_slice.result.now
+    (subst (λ (text : List ℕ). IsOutput (Some last) (actual (under header) past) text) (sym c.as_slice.ensures) output) c.close_with.result c.close_with.ensures.closes
+
+pub returns-in-Err-clause-dumps : goal.returns-in-Err-clause-dumps
+returns-in-Err-clause-dumps g c =
+    let end = playeds.Ended c.in-Ended.events c.in-Ended.finish c.in-Ended.filled in
+    let to = played_so _ _ _ _ _ _ c.play-played.result end c.in-Ended.is c.play-played.ensures.plays in
+    dumps_nothing _ _ _ _ _ _ _ _ _ end to.plays (tells_so _ _ _ _ c.play-played.result.played end c.in-Ended.is c.play-played.ensures.tells)
+    (puts_nothing (g.O.Sink.written c.args.out.now))
+
+pub returns-in-None-clause-dumps : goal.returns-in-None-clause-dumps
+returns-in-None-clause-dumps g c =
+    let end = playeds.Ended c.in-Ended.events c.in-Ended.finish c.in-Ended.filled in
+    let to = played_so _ _ _ _ _ _ c.play-played.result end c.in-Ended.is c.play-played.ensures.plays in
+    dumps_nothing _ _ _ _ _ _ _ _ _ end to.plays (tells_so _ _ _ _ c.play-played.result.played end c.in-Ended.is c.play-played.ensures.tells)
+    (puts_nothing (g.O.Sink.written c.args.out.now))
