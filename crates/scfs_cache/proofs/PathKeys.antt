@@ -11,9 +11,11 @@ use Rattle.scfs_cache.specs.Kept.{answers_limit, fresh, after_keeping}
 use Rattle.scfs_cache.specs.Paths.{by_path, used_again}
 use Rattle.scfs_cache.proofs.Shown.{ShowsKeys, lookup-shows, promoted-shows, put-shows}
 
+-- the bytes of a path
 abbrev bytes_of : Vec ℕ Global → List ℕ
 bytes_of path = path.items
 
+-- whether two paths have the same bytes
 abbrev same_bytes : Vec ℕ Global → Vec ℕ Global → Bool
 same_bytes x y = bytes_eq x.items y.items
 
@@ -33,6 +35,7 @@ module _ {V : Type 0} where
       (put-shows same_bytes bytes_eq bytes_of (λ (answer : Kept V). answer) keys path key answer c is valid)
 
   module _ (es : List (Vec ℕ Global × Kept V)) (path : List ℕ) where
+    -- what is looked up of the path
     abbrev looks : Option (Kept V)
     looks = lookup (λ (k : Vec ℕ Global). bytes_eq path k.items) es
 

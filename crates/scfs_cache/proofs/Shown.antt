@@ -19,6 +19,7 @@ module _ {K U V W : Type 0} (eq : K → K → Bool) (same : U → U → Bool) (f
   abbrev pub show : K × V → U × W
   show entry = (f entry.0, g entry.1)
 
+  -- the entries by what they show
   abbrev pub shows : List (K × V) → List (U × W)
   shows entries = map show entries
 

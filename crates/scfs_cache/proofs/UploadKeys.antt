@@ -20,6 +20,7 @@ same_upload-sound u w same = search rules
 pub uploads_equivalent : IsEquivalence same_upload
 uploads_equivalent = search (comparing, rules)
 
+-- whether two keys are equal
 abbrev same_key : Key → Key → Bool
 same_key = eq-value.it
 

@@ -13,6 +13,7 @@ memory_limit = 16
 abbrev pub disk_limit : ℕ
 disk_limit = 64
 
+-- whether two numbers are of one upload
 abbrev pub same_upload : UploadNo → UploadNo → Bool
 same_upload u v = (u.agent == v.agent) && ((u.incarnation == v.incarnation) && (u.count == v.count))
 

@@ -1,5 +1,6 @@
 pub mod Both
 pub mod Cached
+pub mod Doings
 pub mod Kept
 pub mod Paths
 pub mod Uploads

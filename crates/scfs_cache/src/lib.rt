@@ -10,7 +10,7 @@ mod uploads;
 
 pub use agent_cache::{AgentCache, Hit};
 pub use kept_answers::{KeptAnswers, KeptStat};
-pub use laws::last_uses_stay;
+pub use laws::{caches_have_the_last_uses, last_uses_stay};
 
 #[cfg(test)]
 mod tests;
