@@ -8,8 +8,18 @@ use Rattle.scfs_schedule.specs.declared.types.BadKind.TheVariants as kinds
 use Rattle.scfs_schedule.specs.declared.types.Ending.TheVariants as endings
 use Rattle.scfs_schedule.specs.declared.types.Stop.{Stop}
 use Rattle.scfs_schedule.specs.declared.types.Stop.TheVariants as stops
+use Rattle.scfs_schedule.specs.declared.types.Header.{Header}
+use Rattle.scfs_schedule.specs.Grammar.{IsHeader}
 use Rattle.scfs_schedule.specs.Reading.{read}
-use Rattle.scfs_model.specs.Runs.{actual}
+use Rattle.scfs_model.specs.Format.{Setup}
+use Rattle.scfs_model.specs.History.{History}
+use Rattle.scfs_model.specs.Layers.{row_of}
+use Rattle.scfs_model.specs.Runs.{actual, mapped}
+use Rattle.scfs_laws.specs.Blocks.{NoClash}
+use Rattle.scfs_laws.specs.Laws.{SoundWithoutClash}
+use Rattle.scfs_laws.specs.Mapped as to
+use Rattle.scfs_laws.specs.Sound.{IsSound}
+use Rattle.scfs_world.specs.Happening.{IsPlayed}
 use Rattle.scfs_model.specs.UnitFormat.{under}
 use Rattle.scfs_world.specs.State.{WorldState}
 use Rattle.scfs_cli.specs.declared.closing.Filled.{Filled}
@@ -22,7 +32,7 @@ use Rattle.scfs_cli.specs.declared.closing.Status.TheVariants as statuses
 use Rattle.scfs_cli.specs.declared.play.Played.{Played}
 use Rattle.scfs_cli.specs.declared.play.Played.TheVariants as playeds
 use Rattle.scfs_cli.specs.Closing.{bad_closing, closing_of, end_closing, stop_closing}
-use Rattle.scfs_cli.specs.Dumping.{DumpsInput, IsOutput, IsWhole}
+use Rattle.scfs_cli.specs.Dumping.{DumpsInput, IsOfMap, IsOutput, IsWhole}
 use Rattle.scfs_cli.specs.Finishing.{EndsWith}
 use Rattle.scfs_cli.specs.Giving.{Tells}
 use Rattle.scfs_cli.specs.Headline.{ClosesWith, GetsText, IsStatus, last_line}
@@ -69,13 +79,19 @@ pub last_is_whole : (last : LastLine) (count : ℕ) (finish : Finish) (filled : 
 last_is_whole last count finish filled world is whole =
     subst (λ (o : Option LastLine). IsWholeIf o world) (sym is) (closing_whole count finish filled world whole)
 
+-- Where no two different blocks of a history that was played share a digest, it leaves what the file map has.
+pub of_map : SoundWithoutClash → ((s : Setup) (past : History) → IsSound s past → actual s past ≡ to.state (row_of s) (mapped s past))
+    → (allows : RankFacts → ℕ → Type 0) (header : Header) (past : History) → IsHeader header → IsPlayed allows header past → NoClash header past → IsOfMap header past
+of_map sound agree allows header past is_header plays apart = agree (under header) past (sound header past is_header plays.served plays.events apart)
+
 module _ (allows : RankFacts → ℕ → Type 0) (left now : Option (List ℕ)) (ends ends' faults faults' : ℕ) (before after : Option (List ℕ)) where
   module _ (result : Played) (plays : Plays allows left now None None [] result) (tells : Tells ends ends' faults faults' (filled_of result)) where
     dumps : (status : Status) (finish : Option Finish) → EndsWith allows plays.header plays.past (played (read false plays.taken)) finish
+        → (finish ≡ Some (finishes.Text endings.Ended) → NoClash plays.header plays.past → IsOfMap plays.header plays.past)
         → (text : List ℕ) → IsOutput (last_line (length plays.past) finish (filled_of result)) (actual (under plays.header) plays.past) text
         → GetsText status before after text → IsStatus status (last_line (length plays.past) finish (filled_of result))
         → DumpsInput allows left now before after ends ends' faults faults' status
-    dumps status finish ended text output wrote decided =
+    dumps status finish ended of_the_map text output wrote decided =
         let ran = plays.ran in
         record {
           filled = filled_of result;
@@ -94,6 +110,7 @@ module _ (allows : RankFacts → ℕ → Type 0) (left now : Option (List ℕ)) 
             held = plays.known.held;
             newest = plays.known.newest;
             run = plays.known.run;
+            mapped = of_the_map;
             text = text;
             output = output;
             wrote = wrote;
@@ -107,19 +124,20 @@ module _ (allows : RankFacts → ℕ → Type 0) (left now : Option (List ℕ)) 
     -- for want of memory nothing is written
     pub dumps_nothing : Puts before after [] → DumpsInput allows left now before after ends ends' faults faults' statuses.Memory
     dumps_nothing nothing =
-        dumps statuses.Memory None (first_events allows plays.header plays.past (played (read false plays.taken)) (finish_of result) plays.ends) [] refl
+        dumps statuses.Memory None (first_events allows plays.header plays.past (played (read false plays.taken)) (finish_of result) plays.ends) (λ e. cc) [] refl
         (front_of_more before after [] [] nothing) refl
 
   -- what is written behind a run that has a last line
   module _ (count : ℕ) (finish : Finish) (filled : Filled) (plays : Plays allows left now None None [] (playeds.Ended count finish filled)) (tells : Tells ends ends' faults faults' filled)
-      (last : LastLine) (is : Some last ≡ closing_of count finish filled) (text : List ℕ) (output : IsOutput (Some last) (actual (under plays.header) plays.past) text) where
+      (last : LastLine) (is : Some last ≡ closing_of count finish filled) (of_the_map : Some finish ≡ Some (finishes.Text endings.Ended) → NoClash plays.header plays.past → IsOfMap plays.header plays.past)
+      (text : List ℕ) (output : IsOutput (Some last) (actual (under plays.header) plays.past) text) where
     closing : Some last ≡ closing_of (length plays.past) finish filled
     closing = is ∙ ap (λ n. closing_of n finish filled) plays.ran.counts
 
     with_text : (status : Status) → GetsText status before after text → IsStatus status (closing_of (length plays.past) finish filled)
         → DumpsInput allows left now before after ends ends' faults faults' status
     with_text status wrote decided =
-        dumps (playeds.Ended count finish filled) plays tells status (Some finish) plays.ends text
+        dumps (playeds.Ended count finish filled) plays tells status (Some finish) plays.ends of_the_map text
         (subst (λ (o : Option LastLine). IsOutput o (actual (under plays.header) plays.past) text) closing output) wrote decided
 
     pub dumps_closed : (status : Status) → ClosesWith text last before after status → DumpsInput allows left now before after ends ends' faults faults' status

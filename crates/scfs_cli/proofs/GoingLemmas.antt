@@ -5,6 +5,7 @@ use Rattle.scfs_policy.specs.declared.rank.RankFacts.{RankFacts}
 use Rattle.scfs_schedule.specs.declared.types.Ending.{Ending}
 use Rattle.scfs_schedule.specs.declared.types.Event.{Event}
 use Rattle.scfs_schedule.specs.declared.types.Header.{Header}
+use Rattle.scfs_schedule.specs.Grammar.{IsHeader}
 use Rattle.scfs_schedule.specs.Reading.{Read, Reading, IsAtEvents, gives, read, stopped, unfinished, with_event, with_header}
 use Rattle.scfs_model.specs.History.{Entry, History, transcript}
 use Rattle.scfs_world.specs.Built.{is_built_header}
@@ -113,10 +114,10 @@ module _ (allows : RankFacts → ℕ → Type 0) (left now next before b after :
         draws.nothing_left counts asked.wrote)
 
     -- and its world is left
-    pub leaves_end : (ending : Ending) (filled : Filled) (count : ℕ) (world : WorldState) → given ≡ givens.Ended ending filled → count ≡ length past → Stands world header past
+    pub leaves_end : (ending : Ending) (filled : Filled) (count : ℕ) (world : WorldState) → given ≡ givens.Ended ending filled → count ≡ length past → Stands world header past → IsHeader header
         → PlaysTo allows left next before after w' (record { played = playeds.Ended count (finishes.Text ending) filled; world = Some world })
     unfolding plays_by plays_end
-    leaves_end ending filled count world is counts stands = record { plays = plays_end ending filled count is counts; leaves = stands; whole = λ e. refl }
+    leaves_end ending filled count world is counts stands is_header = record { plays = plays_end ending filled count is counts; leaves = (stands, is_header); whole = λ e. refl }
 
     -- an event came in the line of this number, behind so many others
     module _ (event : Event) (line count : ℕ) (is : given ≡ givens.Event event) (lines : line ≡ new.reader.lines) (counts : count ≡ length past)

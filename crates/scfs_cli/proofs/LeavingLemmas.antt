@@ -1,11 +1,12 @@
 -- The world that a run leaves.
 use Rattle.std.proofs.Common.{◌≡◌, ◌≢◌, ◌==◌, ℕ, List, Bool, true, false, cond, ◌∙◌, sym, subst, Option, Some, None}
-use Rattle.std.specs.Prelude.{IfSome}
+use Rattle.std.specs.Prelude.{IfSome, IsSome}
 use Rattle.scfs_base.specs.Limits.{events_limit}
 use Rattle.scfs_policy.specs.declared.rank.RankFacts.{RankFacts}
 use Rattle.scfs_schedule.specs.declared.types.Ending.TheVariants as endings
 use Rattle.scfs_schedule.specs.declared.types.Event.{Event}
 use Rattle.scfs_schedule.specs.declared.types.Header.{Header}
+use Rattle.scfs_schedule.specs.Grammar.{IsHeader}
 use Rattle.scfs_model.specs.History.{History}
 use Rattle.scfs_model.specs.Runs.{actual}
 use Rattle.scfs_model.specs.UnitFormat.{under}
@@ -40,7 +41,12 @@ finish_is_no_end line count event finish is = by_tests (is_built event) (count =
 -- a world that is left shows the state that the history leaves
 pub left_shows : (world : Option WorldState) (header : Header) (past : History) → Leaves world header past → IfSome world (λ (w : WorldState). Shows w (actual (under header) past))
 left_shows None header past leaves = tt
-left_shows (Some w) header past leaves = leaves.shows
+left_shows (Some w) header past leaves = leaves.0.shows
+
+-- its header is one
+pub left_header : (world : Option WorldState) (header : Header) (past : History) → Leaves world header past → IsSome world → IsHeader header
+left_header None header past leaves some = cc
+left_header (Some w) header past leaves some = leaves.1
 
 -- playing that ended so, with the world that is left
 pub played_so : (allows : RankFacts → ℕ → Type 0) (left now before after : Option (List ℕ)) (w : List ℕ) (x : Playout) (result : Played) → x.played ≡ result

@@ -3,14 +3,16 @@ use Rattle.std.specs.Prelude.{◌≡◌, ◌≤◌, ℕ, ◌+◌, List, [], ◌+
 use Rattle.scfs_base.specs.Limits.{input_limit}
 use Rattle.scfs_base.specs.Outside.{Takes, Rose}
 use Rattle.scfs_policy.specs.declared.rank.RankFacts.{RankFacts}
+use Rattle.scfs_schedule.specs.declared.types.Ending.TheVariants as endings
 use Rattle.scfs_schedule.specs.declared.types.Header.{Header}
 use Rattle.scfs_schedule.specs.Reading.{read}
 use Rattle.scfs_laws.specs.Blocks.{NoClash}
 use Rattle.scfs_laws.specs.Held.{ReadsHeld}
+use Rattle.scfs_laws.specs.Mapped as to
 use Rattle.scfs_laws.specs.Newest.{OpensNewest}
 use Rattle.scfs_model.specs.History.{History}
-use Rattle.scfs_model.specs.Layers.{Row}
-use Rattle.scfs_model.specs.Runs.{actual, Run}
+use Rattle.scfs_model.specs.Layers.{Row, row_of}
+use Rattle.scfs_model.specs.Runs.{actual, mapped, Run}
 use Rattle.scfs_model.specs.States.{State}
 use Rattle.scfs_model.specs.UnitFormat.{under}
 use Rattle.scfs_world.specs.Happening.{IsPlayed}
@@ -24,6 +26,7 @@ use Rattle.scfs_cli.specs.Playing.{played}
 use Rattle.scfs_cli.specs.declared.closing.Filled.{Filled}
 use Rattle.scfs_cli.specs.declared.closing.Filled.TheVariants as filleds
 use Rattle.scfs_cli.specs.declared.closing.Finish.{Finish}
+use Rattle.scfs_cli.specs.declared.closing.Finish.TheVariants as finishes
 use Rattle.scfs_cli.specs.declared.closing.LastLine.{LastLine}
 use Rattle.scfs_cli.specs.declared.closing.LastLine.TheVariants as lasts
 use Rattle.scfs_cli.specs.declared.closing.Status.{Status}
@@ -60,9 +63,14 @@ pub record EndsSoon (taken : List ℕ) : Type 0 where
   pub few : length piece ≤ piece_limit
   pub goes_on : IsUnfinished (played (read false early))
 
+-- what a history leaves is what the file map has, with a row in place of each close
+abbrev pub IsOfMap : Header → History → Type 0
+IsOfMap header past = actual (under header) past ≡ to.state (row_of (under header)) (mapped (under header) past)
+
 -- Of bytes taken from the input: there is a history of the events that are played of what the grammar reads in them, under the header
--- that stands in them, of which all holds that holds of one that is replayed. Out got what is written behind it, and nothing else; where
--- writing failed not all of that, and where memory was wanting nothing. The status is that of a replay.
+-- that stands in them, of which all holds that holds of one that is replayed. Where it was played to its end and no two different blocks
+-- share a digest, the state that it leaves is that of the file map. Out got what is written behind it, and nothing else; where writing
+-- failed not all of that, and where memory was wanting nothing. The status is that of a replay.
 pub record DumpsText (allows : RankFacts → ℕ → Type 0) (taken : List ℕ) (filled : Filled) (before after : Option (List ℕ)) (status : Status) : Type 0 where
   pub header : Header
   pub past : History
@@ -73,6 +81,7 @@ pub record DumpsText (allows : RankFacts → ℕ → Type 0) (taken : List ℕ) 
   pub held : ReadsHeld (under header) past
   pub newest : OpensNewest past
   pub run : NoClash header past → Run (under header) past
+  pub mapped : finish ≡ Some (finishes.Text endings.Ended) → NoClash header past → IsOfMap header past
   pub text : List ℕ
   pub output : IsOutput (last_line (length past) finish filled) (actual (under header) past) text
   pub wrote : GetsText status before after text

@@ -6,6 +6,7 @@ use Rattle.scfs_policy.specs.declared.rank.RankFacts.{RankFacts}
 use Rattle.scfs_schedule.specs.declared.types.Ending.TheVariants as endings
 use Rattle.scfs_schedule.specs.declared.types.Event.{Event}
 use Rattle.scfs_schedule.specs.declared.types.Header.{Header}
+use Rattle.scfs_schedule.specs.Grammar.{IsHeader}
 use Rattle.scfs_schedule.specs.Reading.{IsAtEvents, Read, gives, read, with_header}
 use Rattle.scfs_schedule.specs.Text.{numbered}
 use Rattle.scfs_model.specs.History.{Entry, History, events_then, transcript}
@@ -138,10 +139,10 @@ pub record Plays (allows : RankFacts → ℕ → Type 0) (left left' before afte
   pub ends : EndsWith allows header past (played (read false taken)) (finish_of result)
   pub known : Known allows header past
 
--- a world that is left stands for the history
+-- a world that is left stands for the history, and its header is one
 abbrev pub Leaves : Option WorldState → Header → History → Type 0
 Leaves None header past = Unit {0}
-Leaves (Some world) header past = Stands world header past
+Leaves (Some world) header past = Stands world header past × IsHeader header
 
 -- playing the text on an input, and the world that is left: there is one where the text was played to its end
 pub record PlaysTo (allows : RankFacts → ℕ → Type 0) (left left' before after : Option (List ℕ)) (waiting : List ℕ) (result : Playout) : Type 0 where

@@ -13,6 +13,7 @@ use crate::edges::write_all;
 use crate::play::{Played, Playout, play};
 use crate::streams::Nowhere;
 use scfs_base::{Failed, Memory, Sink, Source};
+use scfs_laws::{layers_agree, sound_without_clash};
 use scfs_policy::{RankFacts, RankRule};
 use std::alloc::Global;
 
@@ -72,6 +73,8 @@ fn dump<I: Source, O: Sink, R: Fn(RankFacts) -> u64>(
         (I.ends input.old) (I.ends input.new) (I.faults input.old) (I.faults input.new) result }
     ensures fault { result ≡ Status.WriteFault → Rose (O.faults out.old) (O.faults out.new) }
 {
+    layers_agree();
+    sound_without_clash();
     let Playout { played, world } = play(alloc, input, rank, &mut Nowhere);
     match played {
         Played::WriteFault => unreachable!(),

@@ -1,11 +1,13 @@
-use Rattle.std.proofs.Common.{List, ℕ, Some, subst, sym}
+use Rattle.std.proofs.Common.{◌≡◌, List, ℕ, Some, subst, sym}
+use Rattle.scfs_schedule.specs.declared.types.Ending.TheVariants as endings
 use Rattle.scfs_model.specs.Runs.{actual}
 use Rattle.scfs_model.specs.UnitFormat.{under}
 use Rattle.scfs_cli.specs.Dumping.{IsOutput}
+use Rattle.scfs_cli.specs.declared.closing.Finish.TheVariants as finishes
 use Rattle.scfs_cli.specs.declared.play.Played.TheVariants as playeds
-use Rattle.scfs_cli.proofs.DumpingLemmas.{dumps_closed, dumps_nothing, last_is_whole}
+use Rattle.scfs_cli.proofs.DumpingLemmas.{dumps_closed, dumps_nothing, last_is_whole, of_map}
 use Rattle.scfs_cli.proofs.EdgeLemmas.{puts_nothing}
-use Rattle.scfs_cli.proofs.LeavingLemmas.{left_shows, played_so, tells_so}
+use Rattle.scfs_cli.proofs.LeavingLemmas.{left_header, left_shows, played_so, tells_so}
 use Rattle.scfs_cli.proofs.call.dump.Goals as goal
 
 pub output-requires : goal.output-requires
@@ -27,9 +29,11 @@ returns-in-Ok-clause-dumps g c =
     let to = played_so _ _ _ _ _ _ c.play-played.result end c.in-Ended.is c.play-played.ensures.plays in
     let header = to.plays.header in
     let past = to.plays.past in
+    let of_the_map = λ (whole : Some c.in-Ended.finish ≡ Some (finishes.Text endings.Ended)). of_map c.sound_without_clash.ensures c.layers_agree.ensures.states _ header past
+    (left_header c.play-played.result.world header past to.leaves (to.whole whole)) to.plays.known.plays in
     let output = c.in-Ok.ensures (actual (under header) past) (left_shows c.play-played.result.world header past to.leaves) in
     dumps_closed _ _ _ _ _ _ _ _ _ c.in-Ended.events c.in-Ended.finish c.in-Ended.filled to.plays
-    (tells_so _ _ _ _ c.play-played.result.played end c.in-Ended.is c.play-played.ensures.tells) last c.in-Some.ensures c.as_slice.result.now
+    (tells_so _ _ _ _ c.play-played.result.played end c.in-Ended.is c.play-played.ensures.tells) last c.in-Some.ensures of_the_map c.as_slice.result.now
     (subst (λ (text : List ℕ). IsOutput (Some last) (actual (under header) past) text) (sym c.as_slice.ensures) output) c.close_with.result c.close_with.ensures.closes
 
 pub returns-in-Err-clause-dumps : goal.returns-in-Err-clause-dumps

@@ -1,4 +1,6 @@
 use Rattle.std.proofs.Common.{◌∷◌, ◌∙◌, ap, subst, arith}
+use Rattle.scfs_schedule.specs.declared.types.Header.{Header}
+use Rattle.scfs_schedule.specs.Grammar.{IsHeader}
 use Rattle.scfs_cli.specs.declared.closing.Filled.TheVariants as filleds
 use Rattle.scfs_cli.specs.declared.intake.Given.{Given}
 use Rattle.scfs_cli.specs.Giving.{Tells, filled_by}
@@ -30,6 +32,7 @@ returns-in-Ok-Ended-clause-plays g c =
     let on = c.in-Ok-Ended.ensures in
     leaves_end _ _ _ _ _ _ _ _ _ _ _ i.header i.past i.going _ (record { more = on.draws.0; draws = on.draws.1; waited = on.draws.2; passes = on.passes })
     c.in-Ok-Ended.ending c.in-Ok-Ended.filled c.events-count.result c.events.world c.in-Ok-Ended.field-0-is (c.events-count.ensures ∙ i.stands.count) i.stands
+    (subst (λ (h : Header). IsHeader h) i.stands.by_header i.world.header)
 
 pub returns-in-Finished-clause-plays : goal.returns-in-Finished-clause-plays
 returns-in-Finished-clause-plays g c =
