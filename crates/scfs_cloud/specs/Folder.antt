@@ -3,6 +3,11 @@ use Rattle.std.specs.Prelude.{◌==◌, ◌||◌, ◌&&◌, ℕ, List, map, Bool
 use Rattle.std.specs.Char.{is_ascii_digit, is_ascii_lowercase}
 use Rattle.std.specs.List.{list_any, list_all, starts_with}
 
+-- a folder as a cloud: its name, and how often it failed
+pub record FolderCloud : Type 0 where
+  pub folder : List ℕ
+  pub faults : ℕ
+
 -- whether a byte may stand in the name of an object: a digit, a small letter or the slash
 abbrev pub is_name_byte : ℕ → Bool
 is_name_byte byte = is_ascii_digit byte || is_ascii_lowercase byte || (byte == 47)

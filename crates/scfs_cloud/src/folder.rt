@@ -19,7 +19,7 @@ use std::marker::Model;
 use std::rt::Files;
 use std::{fs, io};
 
-/// A cloud that is a folder, seen as its count of faults: nothing is told of what it holds. An object is a file of the
+/// A cloud that is a folder, seen as the folder's name and its count of faults: nothing is told of what it holds. An object is a file of the
 /// folder, whose name has `_` in place of `/`; it is written to the file `part` first, and then renamed.
 ///
 /// Names of objects are digits, small letters and `/`, with a `/` among them. So each object has a file of its own, none
@@ -33,11 +33,11 @@ pub struct DirCloud<'a, R: Files> {
 }
 
 impl<'a, R: Files> Model for DirCloud<'a, R> {
-    ghost use Rattle.std.specs.Prelude.{ℕ};
+    ghost use Rattle.scfs_cloud.specs.Folder.{FolderCloud};
 
-    ghost Value = { ℕ };
+    ghost Value = { FolderCloud };
 
-    ghost view = { λ cloud. cloud.faults };
+    ghost view = { λ cloud. record { folder = cloud.folder.now; faults = cloud.faults } };
 }
 
 /// The path of an object's file in a folder.
@@ -172,7 +172,7 @@ fn fault_of(error: &io::Error) -> CloudFault
 impl<'a, R: Files> DirCloud<'a, R> {
     /// The cloud of that folder, which is made at the first Put; while it is missing it holds no objects.
     pub fn new(alloc: Global, files: &'a R, folder: &'a str) -> DirCloud<'a, R>
-        ensures { result ≡ 0 }
+        ensures { result ≡ record { folder = folder.now; faults = 0 } }
     {
         DirCloud {
             alloc,
@@ -185,9 +185,9 @@ impl<'a, R: Files> DirCloud<'a, R> {
     /// Counts a fault that is a failure.
     fn count(&mut self, fault: CloudFault) -> CloudFault
         ensures same { result ≡ fault }
-        ensures failed { result ≡ CloudFault.Failed → self.new ≡ one_more self.old }
+        ensures failed { result ≡ CloudFault.Failed → self.new ≡ record self.old { faults = one_more self.old.faults } }
         ensures wanted { result ≡ CloudFault.Memory → self.new ≡ self.old }
-        ensures later { self.old ≤ self.new }
+        ensures later { self.old.faults ≤ self.new.faults }
     {
         if fault == CloudFault::Failed {
             self.faults = self.faults.saturating_add(1);
@@ -197,7 +197,7 @@ impl<'a, R: Files> DirCloud<'a, R> {
 }
 
 impl<'a, R: Files + AllocGlobal + Clone + Drop> Cloud for DirCloud<'a, R> {
-    ghost faults = { λ cloud. cloud };
+    ghost faults = { λ cloud. cloud.faults };
 
     ghost log = { λ _. None };
 
@@ -205,8 +205,9 @@ impl<'a, R: Files + AllocGlobal + Clone + Drop> Cloud for DirCloud<'a, R> {
 
     fn put(&mut self, name: &[u8], body: &[u8]) -> Result<(), CloudFault>
         ensures named { OnOk result (IsTrue (is_object_name name.now)) }
-        ensures faults { CountsFault self.old self.new (said acked result) }
-        ensures counted { IsCounted self.old self.new (said acked result) }
+        ensures folder { self.new.folder ≡ self.old.folder }
+        ensures faults { CountsFault self.old.faults self.new.faults (said acked result) }
+        ensures counted { IsCounted self.old.faults self.new.faults (said acked result) }
         ensures logged { IsLogged None None (CloudRequest.Put name.now body.now) (said acked result) }
         ensures stored { IsStored None None (CloudRequest.Put name.now body.now) (said acked result) }
     {
@@ -218,8 +219,9 @@ impl<'a, R: Files + AllocGlobal + Clone + Drop> Cloud for DirCloud<'a, R> {
 
     fn get(&mut self, name: &[u8], limit: u32) -> Result<Option<Bytes>, CloudFault>
         ensures named { OnOk result (IsTrue (is_object_name name.now)) }
-        ensures faults { CountsFault self.old self.new (said found result) }
-        ensures counted { IsCounted self.old self.new (said found result) }
+        ensures folder { self.new.folder ≡ self.old.folder }
+        ensures faults { CountsFault self.old.faults self.new.faults (said found result) }
+        ensures counted { IsCounted self.old.faults self.new.faults (said found result) }
         ensures logged { IsLogged None None (CloudRequest.Get name.now limit) (said found result) }
         ensures stored { IsStored None None (CloudRequest.Get name.now limit) (said found result) }
     {
@@ -231,8 +233,9 @@ impl<'a, R: Files + AllocGlobal + Clone + Drop> Cloud for DirCloud<'a, R> {
 
     fn delete(&mut self, name: &[u8]) -> Result<(), CloudFault>
         ensures named { OnOk result (IsTrue (is_object_name name.now)) }
-        ensures faults { CountsFault self.old self.new (said acked result) }
-        ensures counted { IsCounted self.old self.new (said acked result) }
+        ensures folder { self.new.folder ≡ self.old.folder }
+        ensures faults { CountsFault self.old.faults self.new.faults (said acked result) }
+        ensures counted { IsCounted self.old.faults self.new.faults (said acked result) }
         ensures logged { IsLogged None None (CloudRequest.Delete name.now) (said acked result) }
         ensures stored { IsStored None None (CloudRequest.Delete name.now) (said acked result) }
     {
@@ -244,8 +247,9 @@ impl<'a, R: Files + AllocGlobal + Clone + Drop> Cloud for DirCloud<'a, R> {
 
     fn list(&mut self, prefix: &[u8]) -> Result<NameList, CloudFault>
         ensures named { IfOk result (λ names. All (IsListed prefix.now) names) }
-        ensures faults { CountsFault self.old self.new (said CloudAnswer.Names result) }
-        ensures counted { IsCounted self.old self.new (said CloudAnswer.Names result) }
+        ensures folder { self.new.folder ≡ self.old.folder }
+        ensures faults { CountsFault self.old.faults self.new.faults (said CloudAnswer.Names result) }
+        ensures counted { IsCounted self.old.faults self.new.faults (said CloudAnswer.Names result) }
         ensures logged { IsLogged None None (CloudRequest.List prefix.now) (said CloudAnswer.Names result) }
         ensures stored { IsStored None None (CloudRequest.List prefix.now) (said CloudAnswer.Names result) }
     {
