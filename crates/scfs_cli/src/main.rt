@@ -2,6 +2,8 @@
 //! tree that it leaves, to standard output. Or it runs a script over folders as clouds, and keeps what happens in the file `scfs.journal`.
 #![tactic(auto)]
 
+#[cfg(test)]
+mod alone;
 mod built;
 mod call;
 mod closing;

@@ -1,0 +1,4 @@
+pub mod Codes
+pub mod Inside
+pub mod Queue
+pub mod Uploading
