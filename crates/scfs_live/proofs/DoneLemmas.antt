@@ -11,7 +11,7 @@ use Rattle.scfs_world.specs.Built.{is_built}
 use Rattle.scfs_live.specs.declared.awaited.Awaited.{Awaited}
 use Rattle.scfs_live.specs.declared.finding.Found.{Found}
 use Rattle.scfs_live.specs.declared.finding.Found.TheVariants as founds
-use Rattle.scfs_live.specs.Finding.{body_found, event_found, event_read, found, is_left_out, kept_found, line_found}
+use Rattle.scfs_live.specs.Finding.{body_found, event_found, event_read, found, is_left_out, kept_found, line_found, no_line}
 use Rattle.scfs_live.specs.GoingOn.{AreDone, WalkedAreDone}
 use Rattle.scfs_live.specs.Reopening.{Follows, Walk, Walks, unwalked}
 
@@ -25,10 +25,14 @@ module _ (event : Event) where
   kept_line None kept is = cc
   kept_line (Some made) kept is = by_test founds.KeepsLine kept made (bytes_eq kept made) (λ same. cc) is
 
+  by_built : (made : List ℕ) (x : Event) (t : Bool) → cond t (founds.Differs no_line made) (founds.Does x) ≡ founds.Does event → x ≡ event
+  by_built made x true is = cc
+  by_built made x false is = cc
+
   event_line : (made : Option (List ℕ)) (read : Result Event BadKind) → event_found made read ≡ founds.Does event → read ≡ Ok event
   event_line made (Err kind) is = cc
   event_line None (Ok x) is = cc
-  event_line (Some made) (Ok x) is = cc
+  event_line (Some made) (Ok x) is = ap (λ (e : Event). Ok e) (by_built made x (is_built x) is)
 
   by_space : (made : Option (List ℕ)) (rest : List ℕ) (read : Result Event BadKind) (t : Bool) → cond t (kept_found made rest) (event_found made read) ≡ founds.Does event
       → read ≡ Ok event

@@ -10,7 +10,8 @@ use Rattle.scfs_schedule.specs.Text.{event_text, header_text}
 use Rattle.scfs_schedule.proofs.ReadBackLemmas.{line_spelled}
 use Rattle.scfs_model.specs.History.{History}
 use Rattle.scfs_live.specs.declared.finding.Found.TheVariants as founds
-use Rattle.scfs_live.specs.Finding.{event_found, event_read, is_left_out, kept_found, line_found}
+use Rattle.scfs_world.specs.Built.{is_built}
+use Rattle.scfs_live.specs.Finding.{event_found, event_read, is_left_out, kept_found, line_found, no_line}
 use Rattle.scfs_live.specs.GoingOn.{WalkedAreKept, awaited_lines, event_lines, journal_lines, kept_lines}
 use Rattle.scfs_live.specs.Keeping.{made_line, whole_lines}
 use Rattle.scfs_live.specs.Reopening.{Follows, Walk, Walks, unwalked}
@@ -32,6 +33,9 @@ bytes_eq-true (a ∷ x) [] h = cc
 bytes_eq-true (a ∷ x) (b ∷ y) h =
     ap (λ n. n ∷ x) (eqb-true a b (head_true (eqb a b) (bytes_eq x y) h)) ∙ ap (λ t. b ∷ t) (bytes_eq-true x y (tail_true (eqb a b) (bytes_eq x y) h))
 
+both_ways : (b : Bool) → b ≡ true → b ≡ false → ⊥
+both_ways b holds fails = cc
+
 -- a line leads on, and so the lines that were kept, this one, and those still to be kept are the lines of a journal
 module _ (header : Header) (past : History) (line : List ℕ) (kept : List (List ℕ)) (new : Walk) where
   abbrev IsKept : (lines : List (List ℕ)) → Type 0
@@ -47,10 +51,15 @@ module _ (header : Header) (past : History) (line : List ℕ) (kept : List (List
       subst (λ (w : Walk). (kept ++ line ∷ []) ++ awaited_lines w.awaited ≡ journal_lines header w.past) (sym follows)
       (append_assoc kept (line ∷ []) (hs ++ spaced waiting) ∙ ap (λ l. kept ++ l ∷ (hs ++ spaced waiting)) (bytes_eq-true line h same) ∙ was)
 
+  no_event : (m : List ℕ) (ms : List (List ℕ)) (event : Event) (t : Bool) → is_built event ≡ t
+      → Follows (cond t (founds.Differs no_line m) (founds.Does event)) (at past [] (m ∷ ms)) new → ⊥
+  no_event m ms event true is follows = follows
+  no_event m ms event false is follows = both_ways (is_built event) follows.0 is
+
   to_event : (waiting : List (List ℕ)) (read : Result Event BadKind) → event_read header line ≡ read
       → Follows (event_found (slice_get waiting 0) read) (at past [] waiting) new → WasKept [] waiting → IsKept (line ∷ [])
   to_event waiting (Err kind) is follows was = absurd follows
-  to_event (m ∷ ms) (Ok event) is follows was = absurd follows
+  to_event (m ∷ ms) (Ok event) is follows was = absurd (no_event m ms event (is_built event) refl follows)
   to_event [] (Ok event) is follows was =
       let e = follows.2.0 in
       let made = map (made_line (length past + 1)) e.lines in

@@ -56,6 +56,10 @@ too_few : found header after_told (codes "space 0") ≡ founds.Differs (codes "-
 unfolding number_of
 too_few = refl
 
+unbuilt_behind_missing : found header after_told (codes "call 0 sync") ≡ founds.Does (events.Call 0 calls.Sync)
+unfolding number_of
+unbuilt_behind_missing = refl
+
 too_many : found header nothing (codes " 3 ok 0 create 1") ≡ founds.Differs (codes "3 ok 0 create 1") (codes "-")
 too_many = refl
 

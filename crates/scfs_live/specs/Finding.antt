@@ -5,6 +5,7 @@ use Rattle.scfs_schedule.specs.Grammar.{IsEvent, event_of, words_of}
 use Rattle.scfs_schedule.specs.declared.types.BadKind.{BadKind}
 use Rattle.scfs_schedule.specs.declared.types.Event.{Event}
 use Rattle.scfs_schedule.specs.declared.types.Header.{Header}
+use Rattle.scfs_world.specs.Built.{is_built}
 use Rattle.scfs_live.specs.declared.awaited.Awaited.{Awaited}
 use Rattle.scfs_live.specs.declared.finding.Found.{Found}
 use Rattle.scfs_live.specs.declared.finding.Found.TheVariants as founds
@@ -28,11 +29,12 @@ abbrev pub kept_found : (made : Option (List ℕ)) → (kept : List ℕ) → Fou
 kept_found None kept = founds.Differs kept no_line
 kept_found (Some made) kept = compared founds.KeepsLine kept made
 
--- the line of an event; none comes while a line of the last event is still to be kept
+-- The line of an event. None that the program can do comes while a line of the last event is still to be kept; one that it can't do yet
+-- is told at once, as a line that is not allowed is.
 abbrev pub event_found : (made : Option (List ℕ)) → Result Event BadKind → Found
 event_found made (Err kind) = founds.Wrong kind
 event_found None (Ok event) = founds.Does event
-event_found (Some made) (Ok event) = founds.Differs no_line made
+event_found (Some made) (Ok event) = if is_built event then founds.Differs no_line made else founds.Does event
 
 -- the event that a line states under a header, or why it states none
 abbrev pub event_read : Header → List ℕ → Result Event BadKind

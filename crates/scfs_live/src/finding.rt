@@ -6,6 +6,7 @@ ghost use Rattle.scfs_live.specs.Finding.{IsUnder, compared, event_found, event_
 
 use scfs_base::{Bytes, Memory};
 use scfs_schedule::{BadKind, Event, Header, read_event};
+use scfs_world::is_built;
 use std::alloc::Global;
 
 /// What a whole line of an old journal is.
@@ -66,7 +67,7 @@ pub fn kept_found(alloc: Global, made: Option<&[u8]>, kept: &[u8]) -> Result<Fou
     }
 }
 
-/// The line of an event, where `made` is still to be kept of the event before.
+/// The line of an event, where `made` is still to be kept of the event before. An event that the program can't do yet is told first.
 pub fn event_found(
     alloc: Global,
     header: &Header,
@@ -80,7 +81,10 @@ pub fn event_found(
     match (read_event(alloc, header, line)?, made) {
         (Err(kind), _) => Ok(Found::Wrong(kind)),
         (Ok(event), None) => Ok(Found::Does(event)),
-        (Ok(_), Some(made)) => {
+        (Ok(event), Some(made)) => {
+            if !is_built(&event) {
+                return Ok(Found::Does(event));
+            }
             let kept = Bytes::from_slice(alloc, NO_LINE)?;
             let made = Bytes::from_slice(alloc, made)?;
             Ok(Found::Differs(kept, made))

@@ -16,8 +16,6 @@ mod pieces;
 mod recording;
 mod reopening;
 mod running;
-#[cfg(test)]
-mod tests;
 mod waits;
 mod writing;
 

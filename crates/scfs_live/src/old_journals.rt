@@ -258,7 +258,12 @@ fn lines_that_are_not_allowed(rt: HostRuntime) -> Result<(), Fail> {
         parts: &[HEADER, "call 0 create /a\nspace 0\nend\n"],
         ..EMPTY
     };
-    expect(&rt, behind_missing_lines, "bad 9 Word", "")
+    expect(&rt, behind_missing_lines, "bad 9 Word", "")?;
+    let unbuilt_behind_missing_lines = Old {
+        parts: &[HEADER, "call 0 create /a\nspace 0\ncall 0 sync\n"],
+        ..EMPTY
+    };
+    expect(&rt, unbuilt_behind_missing_lines, "unbuilt 9", "")
 }
 
 #[test]
