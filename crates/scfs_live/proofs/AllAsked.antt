@@ -69,8 +69,8 @@ are_asked_then s new old before mid now p more q = record {
   stays = λ c none.
       ⊎_elim
       (λ nothing.
-          let parts = parts_nil (exchanges s c new old) (exchanges s c more (new ++ old)) (exchanges_then s c more new old ∙ nothing) in
-          q.stays c (inl parts.1) ∙ p.stays c (inl parts.0))
+      let parts = parts_nil (exchanges s c new old) (exchanges s c more (new ++ old)) (exchanges_then s c more new old ∙ nothing) in
+      q.stays c (inl parts.1) ∙ p.stays c (inl parts.0))
       (λ far. q.stays c (inr far) ∙ p.stays c (inr far))
       none;
 }
@@ -102,8 +102,8 @@ module _ (s : Setup) (past : History) (e : Entry) (mid : List Told) where
     idle none =
         ⊎_elim
         (λ (nothing : exchange_at d (net s past) e.event ≡ []).
-            none_waits (cloud_at (net s past) d).requests d answer
-            (sym (exchange_there d (net s past) answer) ∙ sym (ap (exchange_at d (net s past)) said) ∙ nothing))
+        none_waits (cloud_at (net s past) d).requests d answer
+        (sym (exchange_there d (net s past) answer) ∙ sym (ap (exchange_at d (net s past)) said) ∙ nothing))
         (λ far. far_waits s past d far)
         none
 

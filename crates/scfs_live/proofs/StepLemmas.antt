@@ -208,14 +208,14 @@ asked_more s c past result was is (oldest ∷ waiting) some asks step =
     let w : Waits oldest (waiting_at (net s past) c) = (waiting, some) in
     ⊎_elim
     (λ in_step.
-        ⊎_elim (λ same. inl same) (λ served. inr (is_ahead s c past is.store oldest w served))
-        (stored_at_most held is.store oldest.body result
-        (subst (λ (o : Option Objects). Stores oldest.body o is.store result) in_step asks.asks.store)))
+    ⊎_elim (λ same. inl same) (λ served. inr (is_ahead s c past is.store oldest w served))
+    (stored_at_most held is.store oldest.body result
+    (subst (λ (o : Option Objects). Stores oldest.body o is.store result) in_step asks.asks.store)))
     (λ ahead.
-        ⊎_elim (λ same. inr (is_ahead s c past is.store oldest w same))
-        (λ served. inr (is_ahead s c past is.store oldest w (served ∙ ap Some (served_twice held oldest.body (all_ordered s past c)))))
-        (stored_at_most (objects_with held oldest.body) is.store oldest.body result
-        (subst (λ (o : Option Objects). Stores oldest.body o is.store result) (ahead_of s c past was.store oldest w ahead) asks.asks.store)))
+    ⊎_elim (λ same. inr (is_ahead s c past is.store oldest w same))
+    (λ served. inr (is_ahead s c past is.store oldest w (served ∙ ap Some (served_twice held oldest.body (all_ordered s past c)))))
+    (stored_at_most (objects_with held oldest.body) is.store oldest.body result
+    (subst (λ (o : Option Objects). Stores oldest.body o is.store result) (ahead_of s c past was.store oldest w ahead) asks.asks.store)))
     step
 
 pub stores_asked_once_more : StoresAskedOnceMore
