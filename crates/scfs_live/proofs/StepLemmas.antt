@@ -1,6 +1,7 @@
 -- Stores in step with a history, and one ahead of it.
 use Rattle.std.proofs.Common.{◌≡◌, ◌≢◌, ℕ, zero, suc, List, [], ◌∷◌, ◌++◌, Option, Some, None, Result, Ok, Err, refl, ap, ◌∙◌, sym, subst, ◌⊎◌, inl, inr, ⊎_elim, get_or}
 use Rattle.std.specs.Prelude.{replicate}
+use Rattle.std.specs.List.Sorted.{IsStrictlySortedBy}
 use Rattle.std.proofs.lemmas.Bool.Decides.{eqb_tells}
 use Rattle.scfs_base.specs.declared.cloud.CloudAnswer.{CloudAnswer}
 use Rattle.scfs_base.specs.declared.cloud.CloudAnswer.TheVariants as answers
@@ -129,6 +130,7 @@ new_holds (suc k) zero = refl
 new_holds (suc k) (suc c) = new_holds k c
 
 all_ordered : (s : Setup) (past : History) (c : ℕ) → AreOrdered (objects_at (net s past) c)
+unfolding IsStrictlySortedBy
 all_ordered s [] c = subst AreOrdered (sym (new_holds _ c)) tt
 all_ordered s (e ∷ past) c =
     subst AreOrdered (sym (asked_hold (effect_after s rows past e).sent (moved_by e.event (net s past)) c))

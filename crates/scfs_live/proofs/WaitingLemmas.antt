@@ -146,14 +146,17 @@ said_first event n c oldest first later live is w =
 pub first_asked : (s : Setup) (c : ℕ) (new past : History) (oldest : Asked) (first : Exchange) (later : List Exchange) → AreLive new
     → exchanges s c new past ≡ first ∷ later → Waits oldest (waiting_at (net s past) c) → first.request ≡ oldest.body
 first_asked s c [] past oldest first later live is w = cc
-first_asked s c (e ∷ new) past oldest first later live is w = by (exchanges s c new past) refl
+first_asked s c (e ∷ new) past oldest first later live is w =
+    by (exchanges s c new past) refl (λ (before : List Exchange) (some : exchanges s c new past ≡ first ∷ before). first_asked s c new past oldest first before live.1 some w)
   where
-    by : (before : List Exchange) → exchanges s c new past ≡ before → first.request ≡ oldest.body
-    by [] none =
+    by : (before : List Exchange) → exchanges s c new past ≡ before
+        → ((rest : List Exchange) → exchanges s c new past ≡ first ∷ rest → first.request ≡ oldest.body) → first.request ≡ oldest.body
+    by [] none earlier =
         said_first e.event (net s (new ++ past)) c oldest first later live.0
         (ap (λ (l : List Exchange). l ++ exchange_at c (net s (new ++ past)) e.event) (sym none) ∙ is)
         (oldest_waits s c new past oldest live.1 none w)
-    by (x ∷ before) some =
+    by (x ∷ before) some earlier =
         let whole : first ∷ later ≡ x ∷ (before ++ exchange_at c (net s (new ++ past)) e.event) =
         sym is ∙ ap (λ (l : List Exchange). l ++ exchange_at c (net s (new ++ past)) e.event) some in
-        ap (first_request oldest.body) whole ∙ first_asked s c new past oldest x before live.1 some w
+        let same : x ≡ first = cc in
+        earlier before (some ∙ ap (λ (y : Exchange). y ∷ before) same)
