@@ -68,10 +68,10 @@ are_asked_then s new old before mid now p more q = record {
       asked_then s more new old c was m.0 is (p.each c was m.0 left m.1) (q.each c m.0 is m.1 right);
   stays = λ c none.
       ⊎_elim
-      (λ nothing.
+      (λ (nothing : exchanges s c (more ++ new) old ≡ []).
       let parts = parts_nil (exchanges s c new old) (exchanges s c more (new ++ old)) (exchanges_then s c more new old ∙ nothing) in
       q.stays c (inl parts.1) ∙ p.stays c (inl parts.0))
-      (λ far. q.stays c (inr far) ∙ p.stays c (inr far))
+      (λ (far : clouds_of s ≤ c). q.stays c (inr far) ∙ p.stays c (inr far))
       none;
 }
 

@@ -49,7 +49,7 @@ wrote_no_more j j1 j2 o o1 o2 new past all none = record {
 
 module _ (allows : RankFacts → ℕ → Type 0) (header : Header) (given : Option Event) (past : History) where
   -- nothing was done yet
-  pub drove_none : IsPlayed allows header past → Drove allows header (begins_with (under header) given) [] past (begins_with (under header) given)
+  pub drove_none : IsPlayed allows header past → length past ≤ events_limit → Drove allows header (begins_with (under header) given) [] past (begins_with (under header) given)
   drove_none plays few = record { plays = plays; driven = refl; live = tt; few = few }
 
   pub going_none : (world : WorldState) (j o : Option (List ℕ)) (clouds : List Told) → Stands world header past → IsPlayed allows header past
