@@ -7,7 +7,6 @@ use Rattle.scfs_base.specs.declared.outside.Memory.{Memory}
 use Rattle.scfs_policy.specs.declared.rank.RankFacts.{RankFacts}
 use Rattle.scfs_schedule.specs.Grammar.{IsScriptEvent}
 use Rattle.scfs_schedule.specs.declared.types.Event.{Event}
-use Rattle.scfs_schedule.specs.declared.types.Event.TheVariants as events
 use Rattle.scfs_schedule.specs.declared.types.Header.{Header}
 use Rattle.scfs_schedule.specs.declared.types.Which.TheVariants as whiches
 use Rattle.scfs_model.specs.Clouds.{net}
@@ -19,11 +18,10 @@ use Rattle.scfs_live.specs.Asked.{AreAsked, Told}
 use Rattle.scfs_live.specs.Driven.{ComesNext, IsDueIn, answer_in}
 use Rattle.scfs_live.specs.Drives.{Drove, Ends, Going}
 use Rattle.scfs_live.specs.Driving.{Driver, begins_with, begun, event_of, next_within}
-use Rattle.scfs_live.specs.Edges.{GetsPart}
 use Rattle.scfs_live.specs.Hearing.{Heard, IsHeard}
 use Rattle.scfs_live.specs.Journal.{entry_lines, entry_piece, lines_of, pieces_of}
 use Rattle.scfs_live.specs.Recording.{WroteAll}
-use Rattle.scfs_live.specs.Stopping.{AskedNext, EndsWanting}
+use Rattle.scfs_live.specs.Stopping.{AskedNext}
 use Rattle.scfs_live.specs.Stores.{IsLiveEvent}
 use Rattle.scfs_live.specs.Turning.{Advanced, Played, Turned, WroteNothing}
 use Rattle.scfs_live.specs.Waits.{waits_after}

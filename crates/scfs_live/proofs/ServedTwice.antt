@@ -1,9 +1,8 @@
 -- A request that is served twice.
-use Rattle.std.proofs.Common.{◌≡◌, ℕ, List, [], ◌∷◌, Bool, true, false, cond, refl, ap, ◌∙◌, sym, subst}
+use Rattle.std.proofs.Common.{◌≡◌, ℕ, List, [], ◌∷◌, cond, refl, ap, ◌∙◌}
 use Rattle.std.specs.List.{AllByRecursion}
 use Rattle.std.specs.List.Sorted.{IsStrictlySortedBy}
 use Rattle.std.specs.Map.{keys_of}
-use Rattle.std.specs.BTreeMap.{is_at}
 use Rattle.std.specs.Ordering.{nat_cmp, is_eq, match_ordering, ordering_reverse}
 use Rattle.std.specs.declared.cmp.Ordering.{Ordering}
 use Rattle.std.specs.declared.cmp.Ordering.TheVariants.{Less, Equal, Greater}
@@ -15,7 +14,6 @@ use Rattle.scfs_base.specs.declared.cloud.CloudRequest.{CloudRequest}
 use Rattle.scfs_base.specs.declared.cloud.CloudRequest.TheVariants as requests
 use Rattle.scfs_net.specs.Store.{Objects, with_object, without_object}
 use Rattle.scfs_net.specs.Queues.{objects_after, objects_with}
-use Rattle.scfs_cloud.specs.Cutting.{IsKept}
 use Rattle.scfs_cloud.specs.InMemory.{AreOrdered}
 use Rattle.scfs_live.specs.Asked.{Suits}
 

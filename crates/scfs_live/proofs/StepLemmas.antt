@@ -1,5 +1,5 @@
 -- Stores in step with a history, and one ahead of it.
-use Rattle.std.proofs.Common.{◌≡◌, ◌≢◌, ℕ, zero, suc, List, [], ◌∷◌, ◌++◌, Option, Some, None, Result, Ok, Err, refl, ap, ◌∙◌, sym, subst, ◌⊎◌, inl, inr, ⊎_elim, get_or}
+use Rattle.std.proofs.Common.{◌≡◌, ◌≢◌, ℕ, zero, suc, List, [], ◌∷◌, ◌++◌, Option, Some, Result, refl, ap, ◌∙◌, sym, subst, ◌⊎◌, inl, inr, ⊎_elim, get_or}
 use Rattle.std.specs.Prelude.{replicate}
 use Rattle.std.specs.List.Sorted.{IsStrictlySortedBy}
 use Rattle.std.proofs.lemmas.Bool.Decides.{eqb_tells}
@@ -9,22 +9,20 @@ use Rattle.scfs_base.specs.declared.cloud.CloudRequest.{CloudRequest}
 use Rattle.scfs_base.specs.declared.outside.Memory.{Memory}
 use Rattle.scfs_schedule.specs.declared.types.Event.{Event}
 use Rattle.scfs_schedule.specs.declared.types.Event.TheVariants as events
-use Rattle.scfs_net.specs.Queues.{Answering, CloudState, NetState, after_answer, always, answer_to, answered, asked, at_cloud, cloud_at, copied_back, deferred, doubled, hiding, lost, new_cloud, objects_after, objects_with, repeated, serving, swapped, taken}
+use Rattle.scfs_net.specs.Queues.{Answering, CloudState, NetState, after_answer, always, answer_to, answered, asked, at_cloud, cloud_at, deferred, doubled, hiding, lost, new_cloud, objects_after, objects_with, repeated, serving, swapped, taken}
 use Rattle.scfs_net.specs.Store.{Objects}
 use Rattle.scfs_net.specs.declared.messages.Asked.{Asked}
-use Rattle.scfs_net.specs.declared.messages.Did.{Did}
 use Rattle.scfs_cloud.specs.Asking.{Stores}
 use Rattle.scfs_cloud.specs.InMemory.{AreOrdered}
 use Rattle.scfs_cloud.specs.declared.cloud.Exchange.{Exchange}
 use Rattle.scfs_cloud.proofs.StoreLemmas.{ordered-objects_with}
-use Rattle.scfs_model.specs.Agents.{Sent}
-use Rattle.scfs_model.specs.Clouds.{all_asked, asked_by, moved_by, net}
+use Rattle.scfs_model.specs.Clouds.{moved_by, net}
 use Rattle.scfs_model.specs.Format.{Setup}
 use Rattle.scfs_model.specs.History.{Entry, History}
 use Rattle.scfs_model.specs.Layers.{rows}
 use Rattle.scfs_model.specs.Runs.{effect_after}
 use Rattle.scfs_live.specs.Asked.{AllSuit, IsAsked, Stored, Suits, Told, answered_oldest, exchange_at, exchanges, objects_after_all}
-use Rattle.scfs_live.specs.Hearing.{AsksAs, AsksOldest}
+use Rattle.scfs_live.specs.Hearing.{AsksOldest}
 use Rattle.scfs_live.specs.Stores.{AreLive, InStep, IsLiveEvent, OneAhead, Serves, StoresAskedOnceMore, StoresComeIntoStep, StoresKeepStep, StoresStayAhead, served_oldest}
 use Rattle.scfs_live.proofs.AskedLemmas.{exchange_elsewhere, exchange_quiet, exchange_there}
 use Rattle.scfs_live.proofs.ExchangeLemmas.{all_suit_parts, objects_then, stored_at_most}
