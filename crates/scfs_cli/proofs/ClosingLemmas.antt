@@ -5,6 +5,7 @@ use Rattle.scfs_schedule.specs.declared.types.BadKind.{BadKind}
 use Rattle.scfs_schedule.specs.declared.types.BadKind.TheVariants as kinds
 use Rattle.scfs_schedule.specs.declared.types.Stop.{Stop}
 use Rattle.scfs_schedule.specs.declared.types.Stop.TheVariants as stops
+use Rattle.scfs_live.specs.Edges.{GetsPart}
 use Rattle.scfs_cli.specs.declared.closing.Finish.{Finish}
 use Rattle.scfs_cli.specs.declared.closing.Finish.TheVariants as finishes
 use Rattle.scfs_cli.specs.declared.closing.Filled.{Filled}
@@ -13,7 +14,6 @@ use Rattle.scfs_cli.specs.Closing.{end_closing, bad_closing, stop_closing, closi
 use Rattle.scfs_cli.specs.declared.closing.Status.{Status}
 use Rattle.scfs_cli.specs.declared.closing.Status.TheVariants as statuses
 use Rattle.scfs_cli.specs.declared.closing.LastLine.{LastLine}
-use Rattle.scfs_cli.specs.Edges.{GetsPart}
 use Rattle.scfs_cli.specs.Headline.{IsStatus, last_line}
 use Rattle.scfs_cli.proofs.EdgeLemmas.{puts_then, then_part}
 

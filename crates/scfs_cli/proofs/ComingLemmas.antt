@@ -6,7 +6,7 @@ use Rattle.scfs_model.specs.Format.{Setup}
 use Rattle.scfs_model.specs.History.{Entry, History}
 use Rattle.scfs_live.specs.declared.driver.Next.{Next}
 use Rattle.scfs_live.specs.Driving.{Driver, begins_with, next_within}
-use Rattle.scfs_live.specs.Driven.{ComesNext, IsDriven, IsDrivenFrom, IsSettled, IsWhole, Live, answer_in, event_in, live_after, live_in, next_by, next_event, or_script}
+use Rattle.scfs_live.specs.Driven.{ComesNext, IsDriven, IsDrivenFrom, IsDueIn, IsDueNext, IsSettled, IsWhole, Live, answer_in, event_in, live_after, live_in, next_by, or_script}
 use Rattle.scfs_live.specs.Waits.{waits_after}
 
 -- new events are those of a script's run, and what comes next is what a driver demands, and then these events of the script
@@ -44,10 +44,9 @@ module _ (s : Setup) (script rest : List Event) (old : History) where
   coming_given new driver event is settled = record { driven = is.driven; comes = is.comes ∙ ap (or_script s (event ∷ rest)) settled }
 
   -- what comes next in a drive comes next in the run
-  pub coming_next : (new : History) (driver beyond : Driver) (event : Event) → IsComing s script new old driver rest → ComesNext s driver (new ++ old) event beyond
-      → next_event s script new old (answer_in event) ≡ Some event
-  coming_next new driver beyond event is comes =
-      ap (event_in (answer_in event)) (is.comes ∙ ap (or_script s rest) comes.due) ∙ ap Some (sym comes.is)
+  pub coming_due : (new : History) (driver : Driver) (next : Next) → IsComing s script new old driver rest → IsDueIn s driver (new ++ old) next
+      → IsDueNext s script new old next
+  coming_due new driver next is due = (record { driver = due.0; script = rest }, is.comes ∙ ap (or_script s rest) due.1)
 
 -- where all is settled and no event of the script is left, the run is whole
 pub coming_whole : (s : Setup) (script : List Event) (new old : History) (driver : Driver) → IsComing s script new old driver [] → IsSettled s driver (new ++ old)

@@ -1,7 +1,8 @@
 use Rattle.std.proofs.Common.{◌≡◌, ℕ, ◌-◌, List, [], ◌++◌, refl, ap, ◌∙◌, sym, subst, Option, Some, None, length, take, drop, append_assoc, append-nil}
 use Rattle.std.proofs.lemmas.List.{take_rest, take-append-drop}
 use Rattle.scfs_base.specs.Outside.{Takes, Puts}
-use Rattle.scfs_cli.specs.Edges.{GetsFront, GetsPart, Passes}
+use Rattle.scfs_live.specs.Edges.{GetsPart}
+use Rattle.scfs_cli.specs.Edges.{GetsFront, Passes}
 
 pub puts_then : (a b c : Option (List ℕ)) (x y : List ℕ) → Puts a b x → Puts b c y → Puts a c (x ++ y)
 puts_then None b c x y p q = tt

@@ -11,6 +11,8 @@ use Rattle.scfs_model.specs.History.{Entry, History, transcript}
 use Rattle.scfs_world.specs.Built.{is_built_header}
 use Rattle.scfs_world.specs.Happening.{Stands}
 use Rattle.scfs_world.specs.State.{WorldState}
+use Rattle.scfs_live.specs.Edges.{GetsPart}
+use Rattle.scfs_live.specs.TooLarge.{IsTooLargeNext}
 use Rattle.scfs_cli.specs.declared.closing.Filled.{Filled}
 use Rattle.scfs_cli.specs.declared.closing.Filled.TheVariants as filleds
 use Rattle.scfs_cli.specs.declared.closing.Finish.{Finish}
@@ -20,8 +22,8 @@ use Rattle.scfs_cli.specs.declared.intake.Given.TheVariants as givens
 use Rattle.scfs_cli.specs.declared.intake.Intake.{Intake}
 use Rattle.scfs_cli.specs.declared.play.Played.{Played}
 use Rattle.scfs_cli.specs.declared.play.Played.TheVariants as playeds
-use Rattle.scfs_cli.specs.Edges.{GetsPart, Passes}
-use Rattle.scfs_cli.specs.Finishing.{EndsWith, IsTooLargeNext}
+use Rattle.scfs_cli.specs.Edges.{Passes}
+use Rattle.scfs_cli.specs.Finishing.{EndsWith}
 use Rattle.scfs_cli.specs.Giving.{Draws, GivesNext, WaitedFor}
 use Rattle.scfs_cli.specs.Playing.{Playing, before_event, events_played, finish_at, finished, header_lines, played, under_header, unless_finished}
 use Rattle.scfs_cli.specs.Plays.{IsNext, Known, Plays, PlaysTo, Ran, SoFar, entry_text, finish_of, with_past}

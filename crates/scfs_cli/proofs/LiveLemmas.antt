@@ -1,25 +1,30 @@
 -- What drives write and what they ask, one after another.
-use Rattle.std.proofs.Common.{◌≡◌, ◌≤◌, ◌⊎◌, inl, inr, ⊎_elim, ℕ, List, [], ◌∷◌, ◌++◌, Option, Some, None, ap, ◌∙◌, sym, subst, append_assoc, append-nil, arith, length, map}
-use Rattle.std.specs.Prelude.{slice_get}
-use Rattle.std.proofs.lemmas.List.{map-append}
-use Rattle.std.proofs.lemmas.Option.{slice_get_within, slice_get_cases}
+use Rattle.std.proofs.Common.{◌≡◌, ◌≤◌, inl, inr, ⊎_elim, ℕ, List, [], ◌∷◌, ◌++◌, Option, Result, Ok, ap, ◌∙◌, sym, subst, append_assoc, append-nil, arith, length}
+use Rattle.scfs_base.specs.Limits.{events_limit}
 use Rattle.scfs_base.specs.Outside.{Puts, Rose}
+use Rattle.scfs_base.specs.declared.cloud.CloudAnswer.{CloudAnswer}
+use Rattle.scfs_base.specs.declared.outside.Memory.{Memory}
+use Rattle.scfs_policy.specs.declared.rank.RankFacts.{RankFacts}
 use Rattle.scfs_schedule.specs.declared.types.Header.{Header}
 use Rattle.scfs_schedule.specs.declared.types.Which.TheVariants as whichs
-use Rattle.scfs_net.specs.Queues.{cloud_at}
 use Rattle.scfs_model.specs.Clouds.{net}
 use Rattle.scfs_model.specs.Format.{Setup}
 use Rattle.scfs_model.specs.History.{History}
 use Rattle.scfs_model.specs.UnitFormat.{under}
-use Rattle.scfs_cloud.specs.declared.cloud.Exchange.{Exchange}
-use Rattle.scfs_live.specs.Asked.{AreAsked, AreAskedMore, InStep, IsAsked, IsAskedMore, IsOneMore, Logged, OneAhead, RecordsFail, Told, as_recorded, exchange_at, exchanges}
-use Rattle.scfs_live.specs.Drives.{EndAsks, EndWrites}
+use Rattle.scfs_live.specs.Asked.{AreAsked, Told}
+use Rattle.scfs_live.specs.Driven.{answer_in}
 use Rattle.scfs_live.specs.Edges.{GetsPart}
+use Rattle.scfs_live.specs.Hearing.{Heard}
 use Rattle.scfs_live.specs.Journal.{entry_lines, entry_piece, lines_of, pieces_of}
 use Rattle.scfs_live.specs.Recording.{ShowedPart, WroteAll, WrotePart}
+use Rattle.scfs_live.specs.Stopping.{AskedNext, StopWrites, Stops}
+use Rattle.scfs_live.specs.Stores.{AreLive}
+use Rattle.scfs_live.specs.TooLarge.{IsTooLargeNext}
+use Rattle.scfs_live.specs.declared.driver.Next.{Next}
 use Rattle.scfs_live.specs.declared.ending.LiveEnd.{LiveEnd}
 use Rattle.scfs_live.specs.declared.ending.LiveEnd.TheVariants as lives
-use Rattle.scfs_live.proofs.EdgeLemmas.{puts_then, then_part}
+use Rattle.scfs_live.proofs.AllAsked.{are_asked_then}
+use Rattle.scfs_live.proofs.EdgeLemmas.{puts_then}
 
 -- the pieces and lines of new events behind others
 pieces_then : (more new old : History) → pieces_of new old ++ pieces_of more (new ++ old) ≡ pieces_of (more ++ new) old
@@ -37,33 +42,43 @@ lines_then (e ∷ more) new old =
     ∙ ap (λ (h : History). lines_of (more ++ new) old ++ entry_lines h e) (sym (append_assoc more new old))
 
 module _ (j j1 j2 o o1 o2 : Option (List ℕ)) (new old : History) (before : WroteAll j j1 o o1 new old) where
-  shown : (more : History) → Puts o1 o2 (lines_of more (new ++ old)) → Puts o o2 (lines_of (more ++ new) old)
-  shown more puts = subst (λ l. Puts o o2 l) (lines_then more new old) (puts_then o o1 o2 (lines_of new old) (lines_of more (new ++ old)) before.out puts)
+  shown : (more : History) (k : Option (List ℕ)) → Puts o1 k (lines_of more (new ++ old)) → Puts o k (lines_of (more ++ new) old)
+  shown more k puts = subst (λ l. Puts o k l) (lines_then more new old) (puts_then o o1 k (lines_of new old) (lines_of more (new ++ old)) before.out puts)
 
-  recorded : (more : History) → Puts j1 j2 (pieces_of more (new ++ old)) → Puts j j2 (pieces_of (more ++ new) old)
-  recorded more puts =
-      subst (λ l. Puts j j2 l) (pieces_then more new old) (puts_then j j1 j2 (pieces_of new old) (pieces_of more (new ++ old)) before.journal puts)
+  recorded : (more : History) (k : Option (List ℕ)) → Puts j1 k (pieces_of more (new ++ old)) → Puts j k (pieces_of (more ++ new) old)
+  recorded more k puts =
+      subst (λ l. Puts j k l) (pieces_then more new old) (puts_then j j1 k (pieces_of new old) (pieces_of more (new ++ old)) before.journal puts)
 
   -- all of it was written
   pub wrote_then : (more : History) → WroteAll j1 j2 o1 o2 more (new ++ old) → WroteAll j j2 o o2 (more ++ new) old
-  wrote_then more wrote = record { journal = recorded more wrote.journal; out = shown more wrote.out }
+  wrote_then more wrote = record { journal = recorded more j2 wrote.journal; out = shown more o2 wrote.out }
 
   part_then : (more : History) → WrotePart j1 j2 o1 o2 more (new ++ old) → WrotePart j j2 o o2 (more ++ new) old
   part_then [] wrote = absurd wrote
   part_then (e ∷ more) wrote =
-      let all = e ∷ more in (
-        subst (λ l. GetsPart j j2 l) (pieces_then all new old) (then_part j j1 j2 (pieces_of new old) (pieces_of all (new ++ old)) before.journal wrote.0),
-        shown more wrote.1,
+      let part = wrote.0 in (
+        record {
+          between = part.between;
+          all = recorded more part.between part.all;
+          part = subst (λ (h : History). GetsPart part.between j2 (entry_piece h e)) (sym (append_assoc more new old)) part.part;
+        },
+        shown more o2 wrote.1,
       )
 
   showed_then : (more : History) → ShowedPart j1 j2 o1 o2 more (new ++ old) → ShowedPart j j2 o o2 (more ++ new) old
-  showed_then more wrote = record {
-    journal = recorded more wrote.journal;
-    out = subst (λ l. GetsPart o o2 l) (lines_then more new old) (then_part o o1 o2 (lines_of new old) (lines_of more (new ++ old)) before.out wrote.out);
-  }
+  showed_then [] wrote = absurd wrote
+  showed_then (e ∷ more) wrote =
+      let part = wrote.1 in (
+        recorded (e ∷ more) j2 wrote.0,
+        record {
+          between = part.between;
+          all = shown more part.between part.all;
+          part = subst (λ (h : History). GetsPart part.between o2 (entry_lines h e)) (sym (append_assoc more new old)) part.part;
+        },
+      )
 
   -- or as much as the end of a drive says
-  pub end_writes_then : (why : LiveEnd) (more : History) → EndWrites why j1 j2 o1 o2 more (new ++ old) → EndWrites why j j2 o o2 (more ++ new) old
+  pub end_writes_then : (why : LiveEnd) (more : History) → StopWrites why j1 j2 o1 o2 more (new ++ old) → StopWrites why j j2 o o2 (more ++ new) old
   end_writes_then (lives.WriteFault whichs.Journal) more wrote = part_then more wrote
   end_writes_then (lives.WriteFault whichs.Out) more wrote = showed_then more wrote
   end_writes_then (lives.WriteFault whichs.Events) more wrote = absurd wrote
@@ -82,106 +97,53 @@ module _ (j j1 j2 o o1 o2 : Option (List ℕ)) (new old : History) (before : Wro
   end_writes_then (lives.Unbuilt line) more wrote = absurd wrote
   end_writes_then (lives.Differs line kept made) more wrote = absurd wrote
 
--- what new events behind others record of a cloud
-exchanges_then : (s : Setup) (c : ℕ) (more new old : History) → exchanges s c new old ++ exchanges s c more (new ++ old) ≡ exchanges s c (more ++ new) old
-exchanges_then s c [] new old = append-nil (exchanges s c new old)
-exchanges_then s c (e ∷ more) new old =
-    sym (append_assoc (exchanges s c new old) (exchanges s c more (new ++ old)) (exchange_at c (net s (more ++ (new ++ old))) e.event))
-    ∙ ap (λ l. l ++ exchange_at c (net s (more ++ (new ++ old))) e.event) (exchanges_then s c more new old)
-    ∙ ap (λ (h : History). exchanges s c (more ++ new) old ++ exchange_at c (net s h) e.event) (sym (append_assoc more new old))
-
-fails_then : (c : ℕ) (more new : History) → RecordsFail c (more ++ new) → RecordsFail c more ⊎ RecordsFail c new
-fails_then c [] new fails = inr fails
-fails_then c (e ∷ more) new fails = ⊎_elim (λ here. inl (inl here)) (λ there. ⊎_elim (λ x. inl (inr x)) (λ y. inr y) (fails_then c more new there)) fails
+-- new events behind others
+pub live_then : (more new : History) → AreLive more → AreLive new → AreLive (more ++ new)
+live_then [] new live before = before
+live_then (e ∷ more) new live before = (live.0, live_then more new live.1 before)
 
 -- counts of faults go on
 pub rose_later : (a b c : ℕ) → Rose a b → b ≤ c → Rose a c
 rose_later a b c r h = omega arith
 
-rose_before : (a b c : ℕ) → a ≤ b → Rose b c → Rose a c
-rose_before a b c h r = omega arith
+-- what was asked for what comes next
+asked_next_then : (s : Setup) (more new old : History) (next : Next) (result : Result CloudAnswer Memory) (before mid now : List Told) → AreAsked s new old before mid
+    → AskedNext s more (new ++ old) next result mid now → AskedNext s (more ++ new) old next result before now
+asked_next_then s more new old next result before mid now p a = record {
+  between = a.between;
+  recorded = are_asked_then s new old before mid a.between p more a.recorded;
+  heard = subst (λ (h : History). Heard next (net s h) result a.between now) (sym (append_assoc more new old)) a.heard;
+}
 
-logged_then : (a m b : Option (List Exchange)) (x y more : List Exchange) → Logged a m x [] → Logged m b y more → Logged a b (x ++ y) more
-logged_then None m b x y more p q = tt
-logged_then (Some log) m b x y more p q =
-    let r : Logged (Some (log ++ p.0 ++ [])) b y more = subst (λ (l : Option (List Exchange)). Logged l b y more) p.1 q in
-    let same : log ++ p.0 ++ [] ++ r.0 ++ more ≡ log ++ (p.0 ++ r.0) ++ more =
-    ap (λ (l : List Exchange). l ++ r.0 ++ more) (append-nil (log ++ p.0)) ∙ ap (λ (l : List Exchange). l ++ more) (append_assoc log p.0 r.0) in
-    (p.0 ++ r.0, r.1 ∙ ap Some same, map-append as_recorded p.0 r.0 ∙ ap (λ (l : List Exchange). l ++ map as_recorded r.0) p.2 ∙ ap (λ (l : List Exchange). x ++ l) r.2)
-
--- equally long lists have an item at the same places
-found_too : {X : Type 0} (xs ys : List X) (c : ℕ) (x : X) → length ys ≡ length xs → slice_get xs c ≡ Some x → (y : X) × (slice_get ys c ≡ Some y)
-found_too xs ys c x same there =
-    elim (slice_get_cases ys c).1 [
-      | inl found ↦ (found.0, found.2)
-      | inr past ↦ absurd (omega (arith, slice_get_within xs c x there, past.0, same))
-    ]
-
-module _ (s : Setup) (more new old : History) (c : ℕ) (was m is : Told) (p : IsAsked s new old c was m) where
+-- a drive behind others stopped
+module _ (allows : RankFacts → ℕ → Type 0) (header : Header) (more new old : History) (IsDue IsDue' : Next → Type 0)
+    (due : (next : Next) → IsDue next → IsDue' next) (before mid now : List Told) (p : AreAsked (under header) new old before mid) where
   same : more ++ (new ++ old) ≡ (more ++ new) ++ old
   same = sym (append_assoc more new old)
 
-  fails : RecordsFail c (more ++ new) → m.faults ≤ is.faults → (RecordsFail c more → Rose m.faults is.faults) → Rose was.faults is.faults
-  fails records later failed =
-      ⊎_elim (λ x. rose_before was.faults m.faults is.faults p.later (failed x)) (λ y. rose_later was.faults m.faults is.faults (p.failed y) later) (fails_then c more new records)
+  on : AreAsked (under header) more (new ++ old) mid now → AreAsked (under header) (more ++ new) old before now
+  on asked = are_asked_then (under header) new old before mid now p more asked
 
-  logs : (extra : List Exchange) → Logged m.log is.log (exchanges s c more (new ++ old)) extra → Logged was.log is.log (exchanges s c (more ++ new) old) extra
-  logs extra logged =
-      subst (λ (l : List Exchange). Logged was.log is.log l extra) (exchanges_then s c more new old)
-      (logged_then was.log m.log is.log (exchanges s c new old) (exchanges s c more (new ++ old)) extra p.logged logged)
-
-  asked_then : IsAsked s more (new ++ old) c m is → IsAsked s (more ++ new) old c was is
-  asked_then q = record {
-    later = omega (arith, p.later, q.later);
-    failed = λ records. fails records q.later q.failed;
-    logged = logs [] q.logged;
-    in_step = λ step. subst (λ (h : History). InStep s c h is.store) same (q.in_step (p.in_step step));
+  pub stops_then : (why : LiveEnd) → Stops allows why header more (new ++ old) IsDue mid now → Stops allows why header (more ++ new) old IsDue' before now
+  stops_then (lives.TooLarge whichs.Events) stops =
+      (subst (λ (h : History). length h ≡ events_limit) same stops.0, (stops.1.0, due stops.1.0 stops.1.1), on stops.2)
+  stops_then (lives.TooLarge whichs.Objects) stops = record {
+    next = stops.next;
+    due = due stops.next stops.due;
+    event = stops.event;
+    is = stops.is;
+    asked = asked_next_then (under header) more new old stops.next (Ok (answer_in stops.event)) before mid now p stops.asked;
+    large = subst (λ (h : History). IsTooLargeNext allows header h stops.event) same stops.large;
   }
-
-  asked_more_then : IsAskedMore s more (new ++ old) c m is → IsAskedMore s (more ++ new) old c was is
-  asked_more_then q = record {
-    more = q.more;
-    one = subst (λ (h : History). IsOneMore (cloud_at (net s h) c).requests q.more) same q.one;
-    later = omega (arith, p.later, q.later);
-    failed = λ records. fails records q.later q.failed;
-    logged = logs q.more q.logged;
-    in_step = λ step. subst (λ (h : History). InStep s c h is.store ⊎ OneAhead s c h is.store) same (q.in_step (p.in_step step));
-  }
-
-module _ (s : Setup) (new old : History) (before mid now : List Told) (p : AreAsked s new old before mid) where
-  -- each cloud was asked these, and then those
-  pub are_asked_then : (more : History) → AreAsked s more (new ++ old) mid now → AreAsked s (more ++ new) old before now
-  are_asked_then more q = record {
-    same = q.same ∙ p.same;
-    each = λ c was is left right.
-        let m = found_too before mid c was p.same left in
-        asked_then s more new old c was m.0 is (p.each c was m.0 left m.1) (q.each c m.0 is m.1 right);
-  }
-
-  more_asked_then : (more : History) → AreAskedMore s more (new ++ old) mid now → AreAskedMore s (more ++ new) old before now
-  more_asked_then more q = record {
-    one = q.one;
-    same = q.same ∙ p.same;
-    each = λ c was is other left right.
-        let m = found_too before mid c was p.same left in
-        asked_then s more new old c was m.0 is (p.each c was m.0 left m.1) (q.each c m.0 is other m.1 right);
-    more = λ was is left right.
-        let m = found_too before mid q.one was p.same left in
-        asked_more_then s more new old q.one was m.0 is (p.each q.one was m.0 left m.1) (q.more m.0 is m.1 right);
-  }
-
--- or as the end of a drive says
-pub end_asks_then : (why : LiveEnd) (header : Header) (more new old : History) (before mid now : List Told) → AreAsked (under header) new old before mid
-    → EndAsks why header more (new ++ old) mid now → EndAsks why header (more ++ new) old before now
-end_asks_then (lives.TooLarge whichs.Objects) header more new old before mid now p asks = more_asked_then (under header) new old before mid now p more asks
-end_asks_then lives.Memory header more new old before mid now p asks = more_asked_then (under header) new old before mid now p more asks
-end_asks_then (lives.TooLarge whichs.Events) header more new old before mid now p asks = are_asked_then (under header) new old before mid now p more asks
-end_asks_then (lives.TooLarge whichs.Input) header more new old before mid now p asks = are_asked_then (under header) new old before mid now p more asks
-end_asks_then (lives.TooLarge whichs.Journal) header more new old before mid now p asks = are_asked_then (under header) new old before mid now p more asks
-end_asks_then (lives.TooLarge whichs.Line) header more new old before mid now p asks = are_asked_then (under header) new old before mid now p more asks
-end_asks_then (lives.TooLarge whichs.Out) header more new old before mid now p asks = are_asked_then (under header) new old before mid now p more asks
-end_asks_then (lives.WriteFault which) header more new old before mid now p asks = are_asked_then (under header) new old before mid now p more asks
-end_asks_then (lives.ReadFault which) header more new old before mid now p asks = are_asked_then (under header) new old before mid now p more asks
-end_asks_then (lives.Bad bad) header more new old before mid now p asks = are_asked_then (under header) new old before mid now p more asks
-end_asks_then (lives.Unbuilt line) header more new old before mid now p asks = are_asked_then (under header) new old before mid now p more asks
-end_asks_then (lives.Differs line kept made) header more new old before mid now p asks = are_asked_then (under header) new old before mid now p more asks
+  stops_then lives.Memory stops =
+      ⊎_elim (λ asked. inl (on asked))
+      (λ one. inr (one.0, one.1, due one.0 one.2, asked_next_then (under header) more new old one.0 one.1 before mid now p one.3)) stops
+  stops_then (lives.WriteFault which) stops = on stops
+  stops_then (lives.TooLarge whichs.Input) stops = absurd stops
+  stops_then (lives.TooLarge whichs.Journal) stops = absurd stops
+  stops_then (lives.TooLarge whichs.Line) stops = absurd stops
+  stops_then (lives.TooLarge whichs.Out) stops = absurd stops
+  stops_then (lives.ReadFault which) stops = absurd stops
+  stops_then (lives.Bad bad) stops = absurd stops
+  stops_then (lives.Unbuilt line) stops = absurd stops
+  stops_then (lives.Differs line kept made) stops = absurd stops

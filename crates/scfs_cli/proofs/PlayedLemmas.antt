@@ -8,9 +8,10 @@ use Rattle.scfs_schedule.specs.declared.types.Ending.{Ending}
 use Rattle.scfs_schedule.specs.Reading.{Read, stopped, with_event, with_header}
 use Rattle.scfs_world.specs.Built.{is_built_header}
 use Rattle.scfs_model.specs.History.{History, events_then}
+use Rattle.scfs_live.specs.TooLarge.{IsTooLargeNext}
 use Rattle.scfs_cli.specs.declared.closing.Finish.{Finish}
 use Rattle.scfs_cli.specs.declared.closing.Finish.TheVariants as finishes
-use Rattle.scfs_cli.specs.Finishing.{IsTooLargeNext, EndsWith}
+use Rattle.scfs_cli.specs.Finishing.{EndsWith}
 use Rattle.scfs_cli.specs.Playing.{Playing, before_event, events_played, finish_at, finished, header_lines, played, under_header, unless_finished}
 use Rattle.scfs_cli.specs.Plays.{with_past}
 

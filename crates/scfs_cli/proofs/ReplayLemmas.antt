@@ -8,6 +8,7 @@ use Rattle.scfs_schedule.specs.declared.types.Header.{Header}
 use Rattle.scfs_schedule.specs.Reading.{read}
 use Rattle.scfs_model.specs.History.{History, transcript}
 use Rattle.scfs_world.specs.State.{WorldState}
+use Rattle.scfs_live.specs.Edges.{GetsPart}
 use Rattle.scfs_cli.specs.declared.closing.Filled.{Filled}
 use Rattle.scfs_cli.specs.declared.closing.Filled.TheVariants as filleds
 use Rattle.scfs_cli.specs.declared.closing.Finish.{Finish}
@@ -18,7 +19,7 @@ use Rattle.scfs_cli.specs.declared.closing.Status.TheVariants as statuses
 use Rattle.scfs_cli.specs.declared.play.Played.{Played}
 use Rattle.scfs_cli.specs.declared.play.Played.TheVariants as playeds
 use Rattle.scfs_cli.specs.Closing.{closing_of, closing_status, closing_text, last_line_text, status_of}
-use Rattle.scfs_cli.specs.Edges.{GetsPart, Passes}
+use Rattle.scfs_cli.specs.Edges.{Passes}
 use Rattle.scfs_cli.specs.Finishing.{EndsWith}
 use Rattle.scfs_cli.specs.Giving.{Tells}
 use Rattle.scfs_cli.specs.Headline.{Closes, GetsText, IsStatus, ReplaysInput, last_line}

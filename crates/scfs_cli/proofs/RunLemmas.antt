@@ -14,6 +14,7 @@ use Rattle.scfs_model.specs.UnitFormat.{under}
 use Rattle.scfs_laws.specs.Held.{ReadsHeld}
 use Rattle.scfs_laws.specs.Laws.{NoClashBefore}
 use Rattle.scfs_laws.specs.Newest.{OpensNewest}
+use Rattle.scfs_live.specs.Edges.{GetsPart}
 use Rattle.scfs_cli.specs.declared.closing.Filled.{Filled}
 use Rattle.scfs_cli.specs.declared.closing.Filled.TheVariants as filleds
 use Rattle.scfs_cli.specs.declared.closing.Finish.{Finish}
@@ -21,7 +22,7 @@ use Rattle.scfs_cli.specs.declared.intake.Given.{Given}
 use Rattle.scfs_cli.specs.declared.intake.Intake.{Intake}
 use Rattle.scfs_cli.specs.declared.play.Played.{Played}
 use Rattle.scfs_cli.specs.declared.play.Played.TheVariants as playeds
-use Rattle.scfs_cli.specs.Edges.{GetsPart, Passes}
+use Rattle.scfs_cli.specs.Edges.{Passes}
 use Rattle.scfs_cli.specs.Finishing.{EndsWith}
 use Rattle.scfs_cli.specs.Giving.{Draws, IsFresh, Tells, WaitedFor}
 use Rattle.scfs_cli.specs.Pace.{KeepsPace}

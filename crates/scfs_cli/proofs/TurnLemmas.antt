@@ -17,10 +17,11 @@ use Rattle.scfs_world.specs.Happening.{Stands}
 use Rattle.scfs_world.specs.Stepping.{IsTooLarge}
 use Rattle.scfs_world.specs.Whole.{StatesAreWhole}
 use Rattle.scfs_world.specs.State.{WorldState}
+use Rattle.scfs_live.specs.Edges.{GetsPart}
+use Rattle.scfs_live.specs.TooLarge.{IsTooLargeNext}
 use Rattle.scfs_cli.specs.declared.play.Turn.{Turn}
 use Rattle.scfs_cli.specs.declared.play.Turn.TheVariants as turns
-use Rattle.scfs_cli.specs.Edges.{GetsPart, Passes}
-use Rattle.scfs_cli.specs.Finishing.{IsTooLargeNext}
+use Rattle.scfs_cli.specs.Edges.{Passes}
 use Rattle.scfs_cli.specs.Plays.{Turns, IsNext, entry_text, finish_of_turn}
 use Rattle.scfs_cli.proofs.EdgeLemmas.{passes_nothing}
 

@@ -18,16 +18,21 @@ use Rattle.scfs_laws.specs.Newest.{OpensNewest}
 use Rattle.scfs_world.specs.Happening.{IsPlayed, Stands}
 use Rattle.scfs_world.specs.State.{WorldState}
 use Rattle.scfs_live.specs.Asked.{AreAsked, Told}
-use Rattle.scfs_live.specs.Driven.{ComesNext, IsDriven, IsSettled, IsWhole, answer_in, next_event}
-use Rattle.scfs_live.specs.Drives.{Drives, EndIsDue, Ends}
+use Rattle.scfs_live.specs.Driven.{IsDriven, IsDueIn, IsDueNext, IsSettled, IsWhole}
+use Rattle.scfs_live.specs.Drives.{Drives, Ends}
 use Rattle.scfs_live.specs.Driving.{Driver, begins_with}
 use Rattle.scfs_live.specs.Keeping.{missing}
 use Rattle.scfs_live.specs.Recording.{WroteAll}
 use Rattle.scfs_live.specs.Reopened.{ReadsAll}
-use Rattle.scfs_live.specs.Reopening.{Walk}
+use Rattle.scfs_live.specs.Reopening.{Follows, Walk, Walks}
+use Rattle.scfs_live.specs.Finding.{found}
+use Rattle.scfs_live.specs.Stores.{AreLive}
+use Rattle.scfs_live.specs.declared.driver.Next.{Next}
+use Rattle.scfs_live.specs.declared.finding.Found.{Found}
+use Rattle.scfs_live.specs.declared.finding.Found.TheVariants as founds
 use Rattle.scfs_live.specs.declared.ending.LiveEnd.{LiveEnd}
 use Rattle.scfs_live.specs.declared.ending.LiveEnd.TheVariants as lives
-use Rattle.scfs_live.proofs.AllAsked.{are_asked_no_more, are_asked_none}
+use Rattle.scfs_live.proofs.AllAsked.{are_asked_none, are_asked_then}
 use Rattle.scfs_live.proofs.EdgeLemmas.{puts_nothing}
 use Rattle.scfs_cli.specs.declared.closing.Filled.TheVariants as filleds
 use Rattle.scfs_cli.specs.declared.intake.Intake.{Intake}
@@ -36,11 +41,11 @@ use Rattle.scfs_cli.specs.declared.stopping.RunEnd.TheVariants as runs
 use Rattle.scfs_cli.specs.Outer.{SinkView, SourceView}
 use Rattle.scfs_cli.specs.Playing.{Playing}
 use Rattle.scfs_cli.specs.Plays.{Known}
-use Rattle.scfs_cli.specs.Running.{KeepsToHeader, KeepsUp, ReadsScript, RunAsks, RunIsDue, RunWrites, RunsOn}
+use Rattle.scfs_cli.specs.Running.{EndsDriving, KeepsToHeader, KeepsUp, ReadsScript, RunWrites, RunsOn}
 use Rattle.scfs_cli.specs.Scripting.{script_of}
 use Rattle.scfs_cli.specs.Underway.{EndsScript, GivesEvent, ReachesOn, ScriptSoFar}
-use Rattle.scfs_cli.proofs.ComingLemmas.{IsComing, coming_first, coming_given, coming_more, coming_next, coming_whole, some_done}
-use Rattle.scfs_cli.proofs.LiveLemmas.{are_asked_then, end_asks_then, end_writes_then, wrote_then}
+use Rattle.scfs_cli.proofs.ComingLemmas.{IsComing, coming_due, coming_first, coming_given, coming_more, coming_whole, some_done}
+use Rattle.scfs_cli.proofs.LiveLemmas.{end_writes_then, live_then, stops_then, wrote_then}
 use Rattle.scfs_cli.proofs.ScriptLemmas.{leads_further}
 
 -- 1 before the first event
@@ -58,6 +63,22 @@ known_of allows header past runs held newest is few plays = record {
   newest = newest (under header) past (omega (arith, few)) plays.happens;
   run = λ apart. runs header past is plays.happens plays.served plays.events apart;
 }
+
+-- lines of an old journal lead to no more events than may stand
+follow_few : (it : Found) (old new : Walk) → Follows it old new → length old.past ≤ events_limit → length new.past ≤ events_limit
+follow_few founds.LeftOut old new same few = subst (λ (w : Walk). length w.past ≤ events_limit) (sym same) few
+follow_few founds.KeepsHeader old new same few = subst (λ (w : Walk). length w.past ≤ events_limit) (sym same) few
+follow_few founds.KeepsLine old new same few = subst (λ (w : Walk). length w.past ≤ events_limit) (sym same) few
+follow_few (founds.Does event) old new (built, room, one) few =
+    subst (λ (w : Walk). length w.past ≤ events_limit) (sym one.2) (omega (arith, room))
+follow_few (founds.Differs kept made) old new none few = absurd none
+follow_few (founds.Wrong kind) old new none few = absurd none
+
+pub walk_few : (header : Header) (old : Walk) (lines : List (List ℕ)) (new : Walk) → Walks header old lines new → length old.past ≤ events_limit
+    → length new.past ≤ events_limit
+walk_few header old [] new same few = subst (λ (w : Walk). length w.past ≤ events_limit) (sym same) few
+walk_few header old (line ∷ lines) new walks few =
+    walk_few header walks.0 lines new walks.2 (follow_few (found header old.awaited line) old walks.0 walks.1 few)
 
 -- the script so far, where the run ended before its next event
 pub reads_open : (input now : SourceView) (intake : Intake) (header : Header) (done : List Event) (s : ScriptSoFar input now intake header done)
@@ -87,6 +108,7 @@ pub record Behind (allows : RankFacts → ℕ → Type 0) (header : Header) (pas
   pub plays : IsPlayed allows header (new ++ past)
   pub wrote : WroteAll j j' o o' new past
   pub asked : AreAsked (under header) new past clouds clouds'
+  pub live : AreLive new
   pub pace : KeepsToHeader script.taken ⊎ KeepsUp (under header) new past script.taken
 
 -- before the first drive
@@ -102,6 +124,7 @@ begins allows header past world intake input input' j o clouds stands plays scri
   plays = plays;
   wrote = record { journal = puts_nothing j; out = puts_nothing o };
   asked = are_asked_none (under header) past clouds;
+  live = tt;
   pace = inl pace;
 }
 
@@ -127,9 +150,9 @@ pub record Ending (allows : RankFacts → ℕ → Type 0) (header : Header) (pas
   pub few : length (new ++ past) ≤ events_limit
   pub plays : IsPlayed allows header (new ++ past)
   pub driven : IsDriven (under header) (script_of taken).events new past
-  pub due : RunIsDue allows end header (script_of taken) new past
+  pub live : AreLive new
+  pub ends : EndsDriving allows end header (script_of taken) new past clouds clouds'
   pub wrote : RunWrites end j j' o o' new past
-  pub asked : RunAsks end header new past clouds clouds'
   pub pace : KeepsToHeader taken ⊎ KeepsUp (under header) new past taken
 
 module _ (allows : RankFacts → ℕ → Type 0) (header : Header) (past : History) (world : WorldState) (driver : Driver) (intake : Intake) (input now : SourceView)
@@ -153,38 +176,23 @@ module _ (allows : RankFacts → ℕ → Type 0) (header : Header) (past : Histo
           plays = subst (λ (h : History). IsPlayed allows header h) same d.going.drove.plays;
           wrote = wrote_then j j1 j2 o o1 o2 b.new past b.wrote more d.going.wrote;
           asked = are_asked_then s b.new past clouds mid clouds' b.asked more d.going.asked;
+          live = live_then more b.new d.going.drove.live b.live;
           pace = keeps_up s more b.new past b.script.taken b.pace;
         },
         refl,
         subst (λ (h : History). IsSettled s d.driver h) same d.settled,
       )
 
-  next_then : (rest : List Event) (more : History) (after : Driver) → IsComing (under header) (b.done ++ rest) (more ++ b.new) past after rest
-      → (script : Playing) → b.done ++ rest ≡ script.events → (event : Event) (beyond : Driver) → ComesNext (under header) after ((more ++ b.new) ++ past) event beyond
-      → next_event (under header) script.events (more ++ b.new) past (answer_in event) ≡ Some event
-  next_then rest more after coming script same event beyond comes =
-      subst (λ (l : List Event). next_event (under header) l (more ++ b.new) past (answer_in event) ≡ Some event) same
-      (coming_next (under header) (b.done ++ rest) rest past (more ++ b.new) after beyond event coming comes)
+  -- what comes next in a drive comes next in the run
+  due_then : (rest : List Event) (more : History) (after : Driver) → IsComing (under header) (b.done ++ rest) (more ++ b.new) past after rest
+      → (script : Playing) → b.done ++ rest ≡ script.events → (next : Next) → IsDueIn (under header) after (more ++ (b.new ++ past)) next
+      → IsDueNext (under header) script.events (more ++ b.new) past next
+  due_then rest more after coming script same next due =
+      subst (λ (l : List Event). IsDueNext (under header) l (more ++ b.new) past next) same
+      (coming_due (under header) (b.done ++ rest) rest past (more ++ b.new) after next coming
+      (subst (λ (h : History). IsDueIn (under header) after h next) (sym (append_assoc more b.new past)) due))
 
   -- a drive ended before
-  due_then : (why : LiveEnd) (rest : List Event) (more : History) (after : Driver) → IsComing (under header) (b.done ++ rest) (more ++ b.new) past after rest
-      → (script : Playing) → b.done ++ rest ≡ script.events → EndIsDue allows why header after ((more ++ b.new) ++ past)
-      → RunIsDue allows (runs.Stopped why) header script (more ++ b.new) past
-  due_then (lives.TooLarge whichs.Events) rest more after coming script same due =
-      (due.0, record { event = due.1.event; comes = next_then rest more after coming script same due.1.event due.1.beyond due.1.next; so = tt })
-  due_then (lives.TooLarge whichs.Objects) rest more after coming script same due =
-      record { event = due.event; comes = next_then rest more after coming script same due.event due.beyond due.next; so = due.so }
-  due_then (lives.TooLarge whichs.Input) rest more after coming script same due = tt
-  due_then (lives.TooLarge whichs.Journal) rest more after coming script same due = tt
-  due_then (lives.TooLarge whichs.Line) rest more after coming script same due = tt
-  due_then (lives.TooLarge whichs.Out) rest more after coming script same due = tt
-  due_then (lives.WriteFault which) rest more after coming script same due = tt
-  due_then (lives.ReadFault which) rest more after coming script same due = tt
-  due_then (lives.Bad bad) rest more after coming script same due = tt
-  due_then (lives.Unbuilt line) rest more after coming script same due = tt
-  due_then (lives.Differs line kept made) rest more after coming script same due = tt
-  due_then lives.Memory rest more after coming script same due = tt
-
   pub drove_to : (given : Option Event) (why : LiveEnd) (j2 o2 : Option (List ℕ)) (clouds' : List Told) → driver ≡ begins_with (under header) given
       → Ends allows why header given (b.new ++ past) j1 j2 o1 o2 mid clouds' → Ending allows header past b.script.taken j j2 o o2 clouds clouds' (runs.Stopped why)
   drove_to given why j2 o2 clouds' begun d =
@@ -199,13 +207,14 @@ module _ (allows : RankFacts → ℕ → Type 0) (header : Header) (past : Histo
       record {
         new = more ++ b.new;
         stated = states input now intake header b.done b.script;
-        few = subst (λ (h : History). length h ≤ events_limit) same d.few;
+        few = subst (λ (h : History). length h ≤ events_limit) same d.drove.few;
         plays = subst (λ (h : History). IsPlayed allows header h) same d.drove.plays;
         driven = subst (λ (l : List Event). IsDriven s l (more ++ b.new) past) (sym events) coming.driven;
-        due = due_then why says.0 more d.after coming (script_of b.script.taken) (sym events)
-            (subst (λ (h : History). EndIsDue allows why header d.after h) same d.due);
+        live = live_then more b.new d.drove.live b.live;
+        ends = stops_then allows header more b.new past (IsDueIn s d.after (more ++ (b.new ++ past)))
+            (IsDueNext s (script_of b.script.taken).events (more ++ b.new) past)
+            (λ next due. due_then says.0 more d.after coming (script_of b.script.taken) (sym events) next due) clouds mid clouds' b.asked why d.stops;
         wrote = end_writes_then j j1 j2 o o1 o2 b.new past b.wrote why more d.wrote;
-        asked = end_asks_then why header more b.new past clouds mid clouds' b.asked d.asked;
         pace = keeps_up s more b.new past b.script.taken b.pace;
       }
 
@@ -248,13 +257,14 @@ module _ (allows : RankFacts → ℕ → Type 0) (header : Header) (past : Histo
           plays = b.plays;
           wrote = b.wrote;
           asked = b.asked;
+          live = b.live;
           pace = reach g.0.taken g.1;
         }
 
     -- or the script ended the run
     end_of_script : (count : ℕ) (end : RunEnd) (taken : List ℕ) → count ≡ length (b.new ++ past) → EndsScript end header b.done count (script_of taken)
-        → ((script_of taken).header ≡ Some header) × IsDriven (under header) (script_of taken).events b.new past × RunIsDue allows end header (script_of taken) b.new past
-        × RunWrites end j j1 o o1 b.new past × RunAsks end header b.new past clouds mid
+        → ((script_of taken).header ≡ Some header) × IsDriven (under header) (script_of taken).events b.new past
+        × EndsDriving allows end header (script_of taken) b.new past clouds mid × RunWrites end j j1 o o1 b.new past
     end_of_script count (runs.Finished total finish filled) taken counts ends =
         let events : (script_of taken).events ≡ b.done = ap (λ (p : Playing). p.events) ends.1 in (
           ap (λ (p : Playing). p.header) ends.1,
@@ -265,16 +275,15 @@ module _ (allows : RankFacts → ℕ → Type 0) (header : Header) (past : Histo
               counts = ends.0 ∙ counts;
               whole = subst (λ (l : List Event). IsWhole (under header) l b.new past) (sym events) whole_done;
             },
+            b.asked,
           ),
           b.wrote,
-          b.asked,
         )
     end_of_script count (runs.Stopped lives.Memory) taken counts ends = (
       ends.1,
       subst (λ (l : List Event). IsDriven (under header) l b.new past) (sym ends.2) (b.coming ends.0).driven,
-      tt,
+      inl b.asked,
       b.wrote,
-      are_asked_no_more (under header) b.new past clouds mid b.asked,
     )
     end_of_script count (runs.Stopped (lives.ReadFault which)) taken counts ends = absurd ends
     end_of_script count (runs.Stopped (lives.WriteFault which)) taken counts ends = absurd ends
@@ -294,9 +303,9 @@ module _ (allows : RankFacts → ℕ → Type 0) (header : Header) (past : Histo
           few = few;
           plays = b.plays;
           driven = all.1;
-          due = all.2;
+          live = b.live;
+          ends = all.2;
           wrote = all.3;
-          asked = all.4;
           pace = reach taken on;
         }
 
@@ -317,10 +326,11 @@ runs_on allows old old' out out' journal journal' clouds clouds' header text pla
   filled_in = filled_in;
   new = e.new;
   known = known;
+  few = e.few;
   driven = e.driven;
-  due = e.due;
+  live = e.live;
+  ends = e.ends;
   wrote = e.wrote;
-  asked = e.asked;
   pace = e.pace;
   journal_failed = journal_failed;
   out_failed = out_failed;

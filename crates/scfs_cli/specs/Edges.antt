@@ -1,4 +1,4 @@
-use Rattle.std.specs.Prelude.{◌≡◌, ◌≢◌, ◌≤◌, ◌<◌, ℕ, List, [], ◌++◌, length, Option, IfSome}
+use Rattle.std.specs.Prelude.{◌≡◌, ◌≤◌, ◌<◌, ℕ, List, [], ◌++◌, length, Option, IfSome}
 use Rattle.scfs_base.specs.Outside.{Takes, Puts}
 use Rattle.scfs_schedule.specs.Reading.{IsAtEvents, Reading, gives}
 use Rattle.scfs_schedule.specs.declared.types.Header.{Header}
@@ -10,14 +10,6 @@ pub record GetsFront (before after : Option (List ℕ)) (text : List ℕ) : Type
   pub front : List ℕ
   pub back : List ℕ
   pub whole : text ≡ front ++ back
-  pub puts : Puts before after front
-
--- where a sink tells, it got a front of this text, and not all of it
-pub record GetsPart (before after : Option (List ℕ)) (text : List ℕ) : Type 0 where
-  pub front : List ℕ
-  pub back : List ℕ
-  pub whole : text ≡ front ++ back
-  pub more : back ≢ []
   pub puts : Puts before after front
 
 -- what waited and this text are what a sink got, where it tells, and what waits now

@@ -10,6 +10,7 @@ use Rattle.scfs_model.specs.History.{History, transcript}
 use Rattle.scfs_model.specs.Runs.{Run}
 use Rattle.scfs_model.specs.UnitFormat.{under}
 use Rattle.scfs_laws.specs.Blocks.{NoClash}
+use Rattle.scfs_live.specs.Edges.{GetsPart}
 use Rattle.scfs_cli.specs.declared.closing.Finish.{Finish}
 use Rattle.scfs_world.specs.Happening.{IsPlayed}
 use Rattle.scfs_cli.specs.Finishing.{EndsWith}
@@ -19,7 +20,7 @@ use Rattle.scfs_cli.specs.declared.closing.LastLine.{LastLine}
 use Rattle.scfs_cli.specs.declared.closing.Status.{Status}
 use Rattle.scfs_cli.specs.declared.closing.Status.TheVariants as statuses
 use Rattle.scfs_cli.specs.Closing.{closing_of, closing_text, closing_status, last_line_text, status_of}
-use Rattle.scfs_cli.specs.Edges.{GetsFront, GetsPart}
+use Rattle.scfs_cli.specs.Edges.{GetsFront}
 use Rattle.scfs_cli.specs.Pace.{KeepsPace}
 use Rattle.scfs_cli.specs.Playing.{played}
 

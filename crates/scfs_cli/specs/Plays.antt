@@ -17,6 +17,8 @@ use Rattle.scfs_laws.specs.Blocks.{NoClash}
 use Rattle.scfs_model.specs.UnitFormat.{under}
 use Rattle.scfs_world.specs.Happening.{IsPlayed, Stands}
 use Rattle.scfs_world.specs.State.{WorldState}
+use Rattle.scfs_live.specs.Edges.{GetsPart}
+use Rattle.scfs_live.specs.TooLarge.{IsTooLargeNext}
 use Rattle.scfs_cli.specs.declared.closing.Filled.{Filled}
 use Rattle.scfs_cli.specs.declared.closing.Filled.TheVariants as filleds
 use Rattle.scfs_cli.specs.declared.closing.Finish.{Finish}
@@ -27,8 +29,8 @@ use Rattle.scfs_cli.specs.declared.play.Played.TheVariants as playeds
 use Rattle.scfs_cli.specs.declared.play.Playout.{Playout}
 use Rattle.scfs_cli.specs.declared.play.Turn.{Turn}
 use Rattle.scfs_cli.specs.declared.play.Turn.TheVariants as turns
-use Rattle.scfs_cli.specs.Edges.{GetsPart, Passes}
-use Rattle.scfs_cli.specs.Finishing.{IsTooLargeNext, EndsWith}
+use Rattle.scfs_cli.specs.Edges.{Passes}
+use Rattle.scfs_cli.specs.Finishing.{EndsWith}
 use Rattle.scfs_cli.specs.Pace.{KeepsPace}
 use Rattle.scfs_cli.specs.Playing.{Playing, finished, header_lines, played}
 

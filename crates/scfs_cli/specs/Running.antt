@@ -4,19 +4,19 @@ use Rattle.scfs_base.specs.Limits.{events_limit, input_limit}
 use Rattle.scfs_base.specs.Outside.{Takes, Puts, Rose}
 use Rattle.scfs_policy.specs.declared.rank.RankFacts.{RankFacts}
 use Rattle.scfs_schedule.specs.Holding.{is_unfinished}
-use Rattle.scfs_schedule.specs.declared.types.Event.{Event}
 use Rattle.scfs_schedule.specs.declared.types.Header.{Header}
 use Rattle.scfs_schedule.specs.declared.types.Which.TheVariants as whichs
 use Rattle.scfs_model.specs.Format.{Setup}
 use Rattle.scfs_model.specs.History.{History}
 use Rattle.scfs_model.specs.UnitFormat.{under}
 use Rattle.scfs_live.specs.Asked.{AreAsked, Told}
-use Rattle.scfs_live.specs.Driven.{IsDriven, IsWhole, answer_in, next_event}
-use Rattle.scfs_live.specs.Drives.{EndAsks, EndWrites}
+use Rattle.scfs_live.specs.Driven.{IsDriven, IsDueNext, IsWhole}
 use Rattle.scfs_live.specs.Keeping.{missing}
-use Rattle.scfs_live.specs.Recording.{IsTooLargeNext, WroteAll}
+use Rattle.scfs_live.specs.Recording.{WroteAll}
 use Rattle.scfs_live.specs.Reopened.{EndsReopening, ReadsAll}
-use Rattle.scfs_live.specs.Reopening.{Walk}
+use Rattle.scfs_live.specs.Reopening.{RunsAgain, Walk}
+use Rattle.scfs_live.specs.Stopping.{StopWrites, Stops}
+use Rattle.scfs_live.specs.Stores.{AreLive}
 use Rattle.scfs_live.specs.declared.ending.LiveEnd.{LiveEnd}
 use Rattle.scfs_live.specs.declared.ending.LiveEnd.TheVariants as lives
 use Rattle.scfs_cli.specs.declared.closing.Filled.{Filled}
@@ -80,7 +80,8 @@ pub record StopsAtHeader (taken : List ℕ) (old old' : SourceView) (out out' jo
   pub journal_stays : journal' ≡ journal
   pub clouds_stay : clouds' ≡ clouds
 
--- Then the old journal is read to its end and run again. Where that ends the run, no cloud was asked and nothing went to out.
+-- Then the old journal is read to its end and run again. Where that ends the run, no cloud was asked and nothing went to out. This is
+-- known of each history that lines of the old journal led to.
 pub record StopsReopening (allows : RankFacts → ℕ → Type 0) (taken : List ℕ) (old old' : SourceView) (out out' journal journal' : SinkView) (clouds clouds' : List Told)
     (end : RunEnd) : Type 0 where
   pub header : Header
@@ -89,45 +90,32 @@ pub record StopsReopening (allows : RankFacts → ℕ → Type 0) (taken : List 
   pub stated : (script_of taken).header ≡ Some header
   pub pace : KeepsToHeader taken
   pub reopening : EndsReopening allows header old.left old'.left old.ends old'.ends journal.written journal'.written why
+  pub known : (lines : List (List ℕ)) (place : Walk) → RunsAgain allows header lines place → Known allows header place.past
   pub read_failed : why ≡ lives.ReadFault whichs.Journal → Rose old.faults old'.faults
   pub write_failed : why ≡ lives.WriteFault whichs.Journal → Rose journal.faults journal'.faults
   pub out_stays : out' ≡ out
   pub clouds_stay : clouds' ≡ clouds
-
--- an event comes next in a script's run
-pub record SomeNext (s : Setup) (script : Playing) (new past : History) (IsSo : Event → Type 0) : Type 0 where
-  pub event : Event
-  pub comes : next_event s script.events new past (answer_in event) ≡ Some event
-  pub so : IsSo event
 
 -- all of a script was driven to its end, with so many events in the whole run
 pub record RanWhole (header : Header) (script : Playing) (new past : History) (count : ℕ) : Type 0 where
   pub counts : count ≡ length (new ++ past)
   pub whole : IsWhole (under header) script.events new past
 
--- Why driving ended: all that is driven of the script is done; as many events as there may be stand, and one more comes next; or the next
--- one would carry too many bytes.
-abbrev pub RunIsDue : (allows : RankFacts → ℕ → Type 0) → RunEnd → Header → (script : Playing) → (new past : History) → Type 0
-RunIsDue allows (runs.Finished count finish filled) header script new past = (finish ≡ script.finish) × RanWhole header script new past count
-RunIsDue allows (runs.Stopped (lives.TooLarge whichs.Events)) header script new past =
-    (length (new ++ past) ≡ events_limit) × SomeNext (under header) script new past (λ event. Unit {0})
-RunIsDue allows (runs.Stopped (lives.TooLarge whichs.Objects)) header script new past =
-    SomeNext (under header) script new past (IsTooLargeNext allows header (new ++ past))
-RunIsDue allows (runs.Stopped other) header script new past = Unit {0}
+-- How driving ended, with what the clouds were asked: all that is driven of the script is done; or it stopped before that.
+abbrev pub EndsDriving : (allows : RankFacts → ℕ → Type 0) → RunEnd → Header → (script : Playing) → (new past : History) → (clouds clouds' : List Told) → Type 0
+EndsDriving allows (runs.Finished count finish filled) header script new past clouds clouds' =
+    (finish ≡ script.finish) × RanWhole header script new past count × AreAsked (under header) new past clouds clouds'
+EndsDriving allows (runs.Stopped why) header script new past clouds clouds' =
+    Stops allows why header new past (IsDueNext (under header) script.events new past) clouds clouds'
 
 -- what journal and out got of the new events
 abbrev pub RunWrites : RunEnd → (j j' o o' : Option (List ℕ)) → (new past : History) → Type 0
 RunWrites (runs.Finished count finish filled) j j' o o' new past = WroteAll j j' o o' new past
-RunWrites (runs.Stopped why) j j' o o' new past = EndWrites why j j' o o' new past
-
--- what the clouds were asked
-abbrev pub RunAsks : RunEnd → Header → (new past : History) → (clouds clouds' : List Told) → Type 0
-RunAsks (runs.Finished count finish filled) header new past clouds clouds' = AreAsked (under header) new past clouds clouds'
-RunAsks (runs.Stopped why) header new past clouds clouds' = EndAsks why header new past clouds clouds'
+RunWrites (runs.Stopped why) j j' o o' new past = StopWrites why j j' o o' new past
 
 -- Then the script is driven. The old journal was read to its end and run again, and what was missing in it was written; behind its history
--- there are new events, each the one that comes next in the script's run; all of it was played. Journal and out got what the new events
--- have, and the clouds were asked what they record.
+-- there are new events, each the one that comes next in the script's run, and no more than may; all of it was played. Journal and out got what
+-- the new events have, and the clouds were asked what they record.
 pub record RunsOn (allows : RankFacts → ℕ → Type 0) (taken : List ℕ) (old old' : SourceView) (out out' journal journal' : SinkView) (clouds clouds' : List Told)
     (end : RunEnd) : Type 0 where
   pub header : Header
@@ -139,10 +127,11 @@ pub record RunsOn (allows : RankFacts → ℕ → Type 0) (taken : List ℕ) (ol
   pub filled_in : Puts journal.written reopened (missing (is_unfinished text) place.awaited)
   pub new : History
   pub known : Known allows header (new ++ place.past)
+  pub few : length (new ++ place.past) ≤ events_limit
   pub driven : IsDriven (under header) (script_of taken).events new place.past
-  pub due : RunIsDue allows end header (script_of taken) new place.past
+  pub live : AreLive new
+  pub ends : EndsDriving allows end header (script_of taken) new place.past clouds clouds'
   pub wrote : RunWrites end reopened journal'.written out.written out'.written new place.past
-  pub asked : RunAsks end header new place.past clouds clouds'
   pub pace : KeepsToHeader taken ⊎ KeepsUp (under header) new place.past taken
   pub journal_failed : end ≡ runs.Stopped (lives.WriteFault whichs.Journal) → Rose journal.faults journal'.faults
   pub out_failed : end ≡ runs.Stopped (lives.WriteFault whichs.Out) → Rose out.faults out'.faults

@@ -1,7 +1,8 @@
 ghost use Rattle.std.specs.Prelude.{◌≡◌, [], List, ℕ, IfNone, IfOk, IfSome, OnErr, OnOk, Ok};
 ghost use Rattle.scfs_base.specs.Outside.{HasCause};
 ghost use Rattle.scfs_schedule.specs.Reading.{IsDrained, gives};
-ghost use Rattle.scfs_cli.specs.Edges.{Fed, GetsPart, Passes};
+ghost use Rattle.scfs_cli.specs.Edges.{Fed, Passes};
+ghost use Rattle.scfs_live.specs.Edges.{GetsPart};
 ghost use Rattle.scfs_cli.specs.Giving.{Draws, GivesNext, InPieces, IsAwaiting, IsFresh, ReadOn, Tells, WaitedFor, filled_by};
 
 use crate::closing::Filled;

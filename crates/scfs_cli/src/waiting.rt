@@ -2,7 +2,8 @@ ghost use Rattle.std.specs.Prelude.{◌≡◌, ◌++◌, ◌≤◌, [], OnErr, O
 ghost use Rattle.std.specs.List.{flat_map};
 ghost use Rattle.scfs_base.specs.Outside.{HasCause, PutsFront, Rose};
 ghost use Rattle.scfs_schedule.specs.Text.{numbered};
-ghost use Rattle.scfs_cli.specs.Edges.{GetsPart, Passes};
+ghost use Rattle.scfs_cli.specs.Edges.{Passes};
+ghost use Rattle.scfs_live.specs.Edges.{GetsPart};
 
 use crate::edges::write_all;
 use scfs_base::{Bytes, Failed, Memory, Sink};

@@ -11,8 +11,8 @@ use Rattle.scfs_model.specs.History.{Entry, History}
 use Rattle.scfs_world.specs.State.{WorldState}
 use Rattle.scfs_live.specs.Asked.{Told}
 use Rattle.scfs_live.specs.Driven.{answer_in}
-use Rattle.scfs_live.specs.Hearing.{Heard}
-use Rattle.scfs_live.specs.Turning.{Advanced, IsHeard, Played, Turned}
+use Rattle.scfs_live.specs.Hearing.{Heard, IsHeard}
+use Rattle.scfs_live.specs.Turning.{Advanced, Played, Turned}
 use Rattle.scfs_live.specs.declared.driver.Next.{Next}
 use Rattle.scfs_live.specs.declared.ending.LiveEnd.{LiveEnd}
 use Rattle.scfs_live.specs.declared.ending.LiveEnd.TheVariants as ends

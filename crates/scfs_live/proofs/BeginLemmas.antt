@@ -27,15 +27,15 @@ none_fits world (Ok begun) is = subst (λ (d : Driver). Fits world.header d) (sy
 none_fits world (Err end) is = tt
 
 module _ (allows : RankFacts → ℕ → Type 0) (world : WorldState) (given : Option Event) (none : given ≡ None) (j o : Option (List ℕ)) where
-  pub none_begun : (result : Result (WorldState × Driver) LiveEnd) → Settles world result → IfOk result (λ begun. (header : Header) (past : History) (clouds : List Told)
+  pub none_begun : world.events ≤ events_limit → (result : Result (WorldState × Driver) LiveEnd) → Settles world result → IfOk result (λ begun. (header : Header) (past : History) (clouds : List Told)
       → Stands world header past → IsPlayed allows header past → Going allows header given past begun.0 begun.1 j j o o clouds clouds)
-  none_begun (Ok begun) is = λ header past clouds stands plays.
+  none_begun room (Ok begun) is = λ header past clouds stands plays.
       let driver : begun.1 ≡ begins_with (under header) None = is.1 ∙ ap (λ (h : Header). begins_with (under h) None) stands.by_header in
       subst (λ (e : Option Event). Going allows header e past begun.0 begun.1 j j o o clouds clouds) (sym none)
       (subst (λ (d : Driver). Going allows header None past begun.0 d j j o o clouds clouds) (sym driver)
       (subst (λ (w : WorldState). Going allows header None past w (begins_with (under header) None) j j o o clouds clouds) (sym is.0)
-      (going_none allows header None past world j o clouds stands plays)))
-  none_begun (Err end) is = tt
+      (going_none allows header None past world j o clouds stands plays (omega (arith, stands.count, room)))))
+  none_begun room (Err end) is = tt
 
   pub none_ended : world.events ≤ events_limit → (result : Result (WorldState × Driver) LiveEnd) → IfErr result (λ end. end ≡ ends.Memory) → IfErr result (λ end. (header : Header) (past : History)
       (clouds : List Told) → Stands world header past → IsPlayed allows header past → Ends allows end header given past j j o o clouds clouds)

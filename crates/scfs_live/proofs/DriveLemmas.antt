@@ -1,6 +1,5 @@
 -- The loop of a drive.
-use Rattle.std.proofs.Common.{arith, ◌≤◌, ◌≡◌, ℕ, List, ◌++◌, ap, ◌∙◌, sym, subst, Option, Some, None, Ok, Err}
-use Rattle.scfs_base.specs.Limits.{events_limit}
+use Rattle.std.proofs.Common.{inl, ◌≡◌, ℕ, List, ◌++◌, ap, ◌∙◌, sym, subst, Option, Some, None, Ok, Err}
 use Rattle.scfs_policy.specs.declared.rank.RankFacts.{RankFacts}
 use Rattle.scfs_schedule.specs.declared.types.Event.{Event}
 use Rattle.scfs_schedule.specs.declared.types.Header.{Header}
@@ -18,23 +17,20 @@ use Rattle.scfs_live.specs.Waits.{Waits, waits_after, waits_in}
 use Rattle.scfs_live.specs.declared.driver.Next.{Next}
 use Rattle.scfs_live.specs.declared.ending.LiveEnd.{LiveEnd}
 use Rattle.scfs_live.specs.declared.ending.LiveEnd.TheVariants as ends
-use Rattle.scfs_live.proofs.AllAsked.{are_asked_no_more}
 use Rattle.scfs_live.proofs.FitsLemmas.{FineNext, next_fits}
 use Rattle.scfs_live.proofs.GoingLemmas.{came_to, went_on}
 use Rattle.scfs_live.proofs.WaitsLemmas.{waits_stand}
 
 -- memory was wanting for what comes next
 pub drive_wanting : (allows : RankFacts → ℕ → Type 0) (header : Header) (given : Option Event) (past : History) (world : WorldState) (driver : Driver)
-    (j j1 o o1 : Option (List ℕ)) (before mid : List Told) → Going allows header given past world driver j j1 o o1 before mid → world.events ≤ events_limit
+    (j j1 o o1 : Option (List ℕ)) (before mid : List Told) → Going allows header given past world driver j j1 o o1 before mid
     → Ends allows ends.Memory header given past j j1 o o1 before mid
-drive_wanting allows header given past world driver j j1 o o1 before mid going few = record {
+drive_wanting allows header given past world driver j j1 o o1 before mid going = record {
   new = going.new;
   after = driver;
   drove = going.drove;
-  few = omega (arith, going.stands.count, few);
-  due = tt;
   wrote = going.wrote;
-  asked = are_asked_no_more (under header) going.new past before mid going.asked;
+  stops = inl going.asked;
 }
 
 module _ (world : WorldState) (driver after : Driver) (found : Option Next)
@@ -71,9 +67,9 @@ module _ (world : WorldState) (driver after : Driver) (found : Option Next)
         (due_after header (going.new ++ past) (Some (next, after)) going.stands (given_is next is)) (given_fine fits next is).1
         j j1 j2 o o1 o2 going.wrote before mid now going.asked world' advanced
 
-    pub drive_came : world.events ≤ events_limit → Fits world.header driver → (next : Next) → found ≡ Some next → (end : LiveEnd)
+    pub drive_came : Fits world.header driver → (next : Next) → found ≡ Some next → (end : LiveEnd)
         → Advanced allows header (going.new ++ past) next mid now j1 j2 o1 o2 (Err end) → Ends allows end header given past j j2 o o2 before now
-    drive_came few fits next is end advanced =
+    drive_came fits next is end advanced =
         came_to allows header given past going.new driver after next going.drove
         (due_after header (going.new ++ past) (Some (next, after)) going.stands (given_is next is)) (given_fine fits next is).1
-        j j1 j2 o o1 o2 going.wrote before mid now going.asked (omega (arith, going.stands.count, few)) end advanced
+        j j1 j2 o o1 o2 going.wrote before mid now going.asked end advanced

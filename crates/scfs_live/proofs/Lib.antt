@@ -6,6 +6,7 @@ pub mod DoneLemmas
 pub mod DriveLemmas
 pub mod DrivenLemmas
 pub mod EdgeLemmas
+pub mod ExchangeLemmas
 pub mod FarLemmas
 pub mod FitsLemmas
 pub mod GoingLemmas
@@ -19,9 +20,12 @@ pub mod PlainLemmas
 pub mod RoundLemmas
 pub mod RowDriven
 pub mod RowReopened
+pub mod ServedTwice
 pub mod SplitLemmas
+pub mod StepLemmas
 pub mod StoppedLemmas
 pub mod StoreLemmas
 pub mod TurnLemmas
+pub mod WaitingLemmas
 pub mod WaitsLemmas
 pub mod WalkLemmas

@@ -1,5 +1,6 @@
 -- What the clouds of a history hold, and what waits for them, from event to event.
-use Rattle.std.proofs.Common.{◌≡◌, ◌≢◌, ℕ, zero, suc, List, [], ◌∷◌, refl, ap, ◌∙◌, ◌⊎◌, inl, inr, get_or}
+use Rattle.std.proofs.Common.{◌≡◌, ◌≢◌, ◌≤◌, ℕ, ◌+◌, ◌*◌, zero, suc, List, [], ◌∷◌, refl, ap, ◌∙◌, ◌⊎◌, inl, inr, get_or, length, length-set, arith}
+use Rattle.std.specs.Prelude.{replicate}
 use Rattle.std.proofs.Math.ListN.{set}
 use Rattle.scfs_base.specs.declared.cloud.CloudAnswer.{CloudAnswer}
 use Rattle.scfs_schedule.specs.declared.types.Event.{Event}
@@ -9,7 +10,7 @@ use Rattle.scfs_net.specs.Store.{Objects}
 use Rattle.scfs_net.specs.declared.messages.Asked.{Asked}
 use Rattle.scfs_model.specs.Agents.{Sent}
 use Rattle.scfs_model.specs.Clouds.{all_asked, asked_by, moved_by, net}
-use Rattle.scfs_model.specs.Format.{Setup}
+use Rattle.scfs_model.specs.Format.{Setup, clouds_of}
 use Rattle.scfs_model.specs.History.{Entry, History}
 use Rattle.scfs_model.specs.Layers.{rows}
 use Rattle.scfs_model.specs.Runs.{effect_after}
@@ -37,7 +38,7 @@ abbrev pub objects_at : NetState → (c : ℕ) → Objects
 objects_at n c = (cloud_at n c).objects
 
 -- an event at one cloud leaves what the others hold
-kept_at : (n : NetState) (d : ℕ) (event : CloudState → CloudState) (c : ℕ) → (event (cloud_at n d)).objects ≡ objects_at n d
+pub kept_at : (n : NetState) (d : ℕ) (event : CloudState → CloudState) (c : ℕ) → (event (cloud_at n d)).objects ≡ objects_at n d
     → objects_at (at_cloud n d event) c ≡ objects_at n c
 kept_at n d event c there =
     elim (set_cases n.clouds d c (event (cloud_at n d)) new_cloud) [
@@ -61,7 +62,7 @@ quiet_holds (events.Start a) n c quiet = refl
 quiet_holds event n c quiet = absurd quiet
 
 module _ (s : Setup) (e : Entry) (past : History) (c : ℕ) where
-  moved_hold : objects_at (net s (e ∷ past)) c ≡ objects_at (moved_by e.event (net s past)) c
+  pub moved_hold : objects_at (net s (e ∷ past)) c ≡ objects_at (moved_by e.event (net s past)) c
   moved_hold = asked_hold (effect_after s rows past e).sent (moved_by e.event (net s past)) c
 
   -- a quiet event leaves what clouds hold
@@ -80,7 +81,7 @@ module _ (s : Setup) (e : Entry) (past : History) (c : ℕ) where
   others_leave d answer is other =
       moved_hold ∙ ap (λ (event : Event). objects_at (moved_by event (net s past)) c) is ∙ answer_elsewhere d answer (net s past) other
 
-  set_there : (xs : List CloudState) (n : ℕ) (v : CloudState) (oldest : Asked) (waiting : List Asked)
+  pub set_there : (xs : List CloudState) (n : ℕ) (v : CloudState) (oldest : Asked) (waiting : List Asked)
       → (get_or xs n new_cloud).requests ≡ oldest ∷ waiting → get_or (set xs n v) n new_cloud ≡ v
   set_there [] n v oldest waiting some = cc
   set_there (x ∷ xs) zero v oldest waiting some = refl
@@ -96,3 +97,40 @@ module _ (s : Setup) (e : Entry) (past : History) (c : ℕ) where
       moved_hold ∙ ap (λ (event : Event). objects_at (moved_by event n) c) is
       ∙ ap (λ (x : CloudState). x.objects) (set_there n.clouds c (answered (always answer) cloud) oldest waiting some)
       ∙ ap (λ (q : List Asked). (after_answer cloud q (answer_to (always answer) cloud.objects q)).objects) some
+
+-- a history has as many clouds as the run, and nothing waits at any other
+past_end : {X : Type 0} (xs : List X) (c : ℕ) (d : X) → length xs ≤ c → get_or xs c d ≡ d
+past_end [] c d past = refl
+past_end (x ∷ xs) zero d past = absurd (omega (arith, past))
+past_end (x ∷ xs) (suc c) d past = past_end xs c d (omega (arith, past))
+
+all_alike : {X : Type 0} (n : ℕ) (x : X) → length (replicate n x) ≡ n
+all_alike zero x = refl
+all_alike (suc n) x = ap suc (all_alike n x)
+
+asked_length : (sent : List Sent) (n : NetState) → length (all_asked n sent).clouds ≡ length n.clouds
+asked_length [] n = refl
+asked_length (x ∷ sent) n = asked_length sent (asked_by n x) ∙ length-set n.clouds x.cloud _
+
+moved_length : (n : NetState) (event : Event) → length (moved_by event n).clouds ≡ length n.clouds
+moved_length n (events.Serve c) = length-set n.clouds c _
+moved_length n (events.Hide c) = length-set n.clouds c _
+moved_length n (events.Fail c) = length-set n.clouds c _
+moved_length n (events.Say c answer) = length-set n.clouds c _
+moved_length n (events.Give c) = length-set n.clouds c _
+moved_length n (events.Lose c) = length-set n.clouds c _
+moved_length n (events.Drop c) = length-set n.clouds c _
+moved_length n (events.Defer c) = length-set n.clouds c _
+moved_length n (events.Swap c) = length-set n.clouds c _
+moved_length n (events.Again c) = length-set n.clouds c _
+moved_length n (events.Twice c) = length-set n.clouds c _
+moved_length n other = refl
+
+net_length : (s : Setup) (past : History) → length (net s past).clouds ≡ clouds_of s
+net_length s [] = all_alike (3 * s.header.f + 1) new_cloud
+net_length s (e ∷ past) =
+    asked_length (effect_after s rows past e).sent (moved_by e.event (net s past)) ∙ moved_length (net s past) e.event ∙ net_length s past
+
+pub far_waits : (s : Setup) (past : History) (c : ℕ) → clouds_of s ≤ c → (cloud_at (net s past) c).requests ≡ []
+far_waits s past c far =
+    ap (λ (x : CloudState). x.requests) (past_end (net s past).clouds c new_cloud (omega (arith, net_length s past, far)))

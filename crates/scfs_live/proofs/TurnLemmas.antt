@@ -21,7 +21,8 @@ use Rattle.scfs_world.specs.State.{WorldState}
 use Rattle.scfs_world.specs.Stepping.{IsTooLarge}
 use Rattle.scfs_world.specs.Whole.{StatesAreWhole}
 use Rattle.scfs_live.specs.Journal.{entry_lines, entry_piece, kept_line}
-use Rattle.scfs_live.specs.Recording.{IsTooLargeNext, Writes}
+use Rattle.scfs_live.specs.Recording.{Writes}
+use Rattle.scfs_live.specs.TooLarge.{IsTooLargeNext}
 use Rattle.scfs_live.specs.Turning.{Played, Turned, WroteNothing}
 use Rattle.scfs_live.specs.declared.ending.LiveEnd.{LiveEnd}
 use Rattle.scfs_live.specs.declared.ending.LiveEnd.TheVariants as ends

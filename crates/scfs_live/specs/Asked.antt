@@ -1,17 +1,18 @@
 -- What the real clouds were asked: the exchanges that new events record.
-use Rattle.std.specs.Prelude.{◌≡◌, ◌≢◌, ◌≤◌, ◌⊎◌, ℕ, List, [], ◌∷◌, ◌++◌, length, map, ◌==◌, if◌then◌else◌, Option, Some, None, slice_get}
+use Rattle.std.specs.Prelude.{◌≡◌, ◌≤◌, ◌⊎◌, ℕ, List, [], ◌∷◌, ◌++◌, length, map, ◌==◌, if◌then◌else◌, Option, Some, None, slice_get}
 use Rattle.scfs_base.specs.Outside.{Rose}
 use Rattle.scfs_base.specs.declared.cloud.CloudAnswer.{CloudAnswer}
 use Rattle.scfs_base.specs.declared.cloud.CloudAnswer.TheVariants as answers
+use Rattle.scfs_base.specs.declared.cloud.CloudRequest.{CloudRequest}
 use Rattle.scfs_schedule.specs.declared.types.Event.{Event}
 use Rattle.scfs_schedule.specs.declared.types.Event.TheVariants as events
-use Rattle.scfs_net.specs.Queues.{NetState, cloud_at, objects_with}
+use Rattle.scfs_net.specs.Queues.{NetState, answer_of, cloud_at, objects_after}
 use Rattle.scfs_net.specs.Store.{Objects}
 use Rattle.scfs_net.specs.declared.messages.Asked.{Asked}
-use Rattle.scfs_cloud.specs.Cutting.{cut_answer}
+use Rattle.scfs_cloud.specs.Cutting.{HasShortNames, IsKept, cut_answer}
 use Rattle.scfs_cloud.specs.declared.cloud.Exchange.{Exchange}
 use Rattle.scfs_model.specs.Clouds.{net}
-use Rattle.scfs_model.specs.Format.{Setup}
+use Rattle.scfs_model.specs.Format.{Setup, clouds_of}
 use Rattle.scfs_model.specs.History.{History}
 
 -- what is known of a real cloud: its count of faults, and where it tells them its log and its store
@@ -20,6 +21,7 @@ pub record Told : Type 0 where
   pub log : Option (List Exchange)
   pub store : Option Objects
 
+-- a real cloud by what it tells
 abbrev pub told : ℕ → Option (List Exchange) → Option Objects → Told
 told faults log store = record { faults = faults; log = log; store = store }
 
@@ -47,56 +49,43 @@ RecordsFail c (e ∷ new) = (e.event ≡ events.Say c answers.Fail) ⊎ RecordsF
 abbrev pub as_recorded : Exchange → Exchange
 as_recorded x = record x { answer = cut_answer x.request x.answer }
 
--- nothing more, or one exchange of the oldest request that waits
-abbrev pub IsOneMore : List Asked → List Exchange → Type 0
-IsOneMore waiting [] = Unit {0}
-IsOneMore [] (x ∷ more) = ⊥
-IsOneMore (oldest ∷ waiting) (x ∷ []) = x.request ≡ oldest.body
-IsOneMore waiting (x ∷ y ∷ more) = ⊥
+-- where the log is told, it got exchanges that are recorded so: with these answers, or with longer ones that are cut to them
+abbrev pub Logged : (before now : Option (List Exchange)) → (recorded : List Exchange) → Type 0
+Logged None now recorded = Unit {0}
+Logged (Some log) now recorded = (asked : List Exchange) × (now ≡ Some (log ++ asked)) × (map as_recorded asked ≡ recorded)
 
--- where the log is told, it got the recorded exchanges, with these answers or longer ones, and then these
-abbrev pub Logged : (before now : Option (List Exchange)) → (recorded more : List Exchange) → Type 0
-Logged None now recorded more = Unit {0}
-Logged (Some log) now recorded more = (asked : List Exchange) × (now ≡ Some (log ++ asked ++ more)) × (map as_recorded asked ≡ recorded)
+-- what a cloud holds after exchanges, the oldest first
+abbrev pub objects_after_all : Objects → List Exchange → Objects
+objects_after_all objects [] = objects
+objects_after_all objects (x ∷ later) = objects_after_all (objects_after objects x.request x.answer) later
 
--- a store that is told is in step with a history: it is what cloud c holds after it
-abbrev pub InStep : Setup → (c : ℕ) → History → Option Objects → Type 0
-InStep s c past store = store ≡ Some (cloud_at (net s past) c).objects
+-- An answer to a request is a failure; or it is one that the request can have, and where no stored name is longer than is kept, the one
+-- that a cloud which holds these objects gives when it serves the request.
+abbrev pub Suits : Objects → CloudRequest → CloudAnswer → Type 0
+Suits objects request answers.Fail = Unit {0}
+Suits objects request answer = IsKept request answer × (HasShortNames objects → answer ≡ answer_of objects request)
 
--- what a cloud holds, once it served the oldest request that waits
-abbrev pub served_oldest : Objects → List Asked → Objects
-served_oldest objects [] = objects
-served_oldest objects (oldest ∷ waiting) = objects_with objects oldest.body
+-- the answers of exchanges, each of which changes the objects for the next
+abbrev pub AllSuit : Objects → List Exchange → Type 0
+AllSuit objects [] = Unit {0}
+AllSuit objects (x ∷ later) = Suits objects x.request x.answer × AllSuit (objects_after objects x.request x.answer) later
 
--- a store that is told is one ahead of a history: the oldest request that waits was served too
-abbrev pub OneAhead : Setup → (c : ℕ) → History → Option Objects → Type 0
-OneAhead s c past store = store ≡ Some (served_oldest (cloud_at (net s past) c).objects (cloud_at (net s past) c).requests)
+-- where the store was told, it is told now: the exchanges changed it to this, and their answers are those of what it held
+abbrev pub Stored : (before now : Option Objects) → (recorded : List Exchange) → Type 0
+Stored None now recorded = Unit {0}
+Stored (Some objects) now recorded = (now ≡ Some (objects_after_all objects recorded)) × AllSuit objects recorded
 
 -- a real cloud over new events: its count of faults never fell, and rose where they record a failure; its log got the exchanges
--- that they record; a store that was in step still is
+-- that they record, and they made its store what it is
 pub record IsAsked (s : Setup) (new past : History) (c : ℕ) (before now : Told) : Type 0 where
   pub later : before.faults ≤ now.faults
   pub failed : RecordsFail c new → Rose before.faults now.faults
-  pub logged : Logged before.log now.log (exchanges s c new past) []
-  pub in_step : InStep s c past before.store → InStep s c (new ++ past) now.store
+  pub logged : Logged before.log now.log (exchanges s c new past)
+  pub stored : Stored before.store now.store (exchanges s c new past)
 
--- and it was asked at most once more, its oldest request, which is not recorded; its store is in step, or one ahead
-pub record IsAskedMore (s : Setup) (new past : History) (c : ℕ) (before now : Told) : Type 0 where
-  pub more : List Exchange
-  pub one : IsOneMore (cloud_at (net s (new ++ past)) c).requests more
-  pub later : before.faults ≤ now.faults
-  pub failed : RecordsFail c new → Rose before.faults now.faults
-  pub logged : Logged before.log now.log (exchanges s c new past) more
-  pub in_step : InStep s c past before.store → (InStep s c (new ++ past) now.store ⊎ OneAhead s c (new ++ past) now.store)
-
--- the clouds over new events, each as it was and as it is
+-- the real clouds over new events, each as it was and as it is; one of which no exchange is recorded stays, and so does one that is none
+-- of the run's
 pub record AreAsked (s : Setup) (new past : History) (before now : List Told) : Type 0 where
   pub same : length now ≡ length before
   pub each : (c : ℕ) (was is : Told) → slice_get before c ≡ Some was → slice_get now c ≡ Some is → IsAsked s new past c was is
-
--- and one of them may have been asked once more
-pub record AreAskedMore (s : Setup) (new past : History) (before now : List Told) : Type 0 where
-  pub one : ℕ
-  pub same : length now ≡ length before
-  pub each : (c : ℕ) (was is : Told) → c ≢ one → slice_get before c ≡ Some was → slice_get now c ≡ Some is → IsAsked s new past c was is
-  pub more : (was is : Told) → slice_get before one ≡ Some was → slice_get now one ≡ Some is → IsAskedMore s new past one was is
+  pub stays : (c : ℕ) → (exchanges s c new past ≡ []) ⊎ (clouds_of s ≤ c) → slice_get now c ≡ slice_get before c

@@ -28,6 +28,10 @@ IsDrivenFrom s before [] past after = before ≡ after
 IsDrivenFrom s before (e ∷ new) past after =
     (between : Driver) × IsDrivenFrom s before new past between × ComesNext s between (new ++ past) e.event after
 
+-- what comes next after a history, by where driving is
+abbrev pub IsDueIn : Setup → Driver → History → Next → Type 0
+IsDueIn s d past next = (beyond : Driver) × (next_within s (waits_after s past) d ≡ Some (next, beyond))
+
 -- no event comes next after a history: all is settled, and no turn is to come
 abbrev pub IsSettled : Setup → Driver → (past : History) → Type 0
 IsSettled s d past = next_within s (waits_after s past) d ≡ None
@@ -82,6 +86,10 @@ IsDriven s script (e ∷ new) old = (next_event s script new old (answer_in e.ev
 -- and no further event comes
 abbrev pub IsWhole : Setup → (script : List Event) → (new old : History) → Type 0
 IsWhole s script new old = next_event s script new old answers.Fail ≡ None
+
+-- what comes next behind the new events of a script's run
+abbrev pub IsDueNext : Setup → (script : List Event) → (new old : History) → Next → Type 0
+IsDueNext s script new old next = (beyond : Live) × (next_by s (new ++ old) (live_after s script new old) ≡ Some (next, beyond))
 
 -- a script's run so far: its new events, and where it is
 pub record IsLive (s : Setup) (script : List Event) (new old : History) (live : Live) : Type 0 where

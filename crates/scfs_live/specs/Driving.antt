@@ -2,12 +2,12 @@
 -- whose call is unanswered.
 use Rattle.std.specs.Prelude.{ℕ, zero, suc, List, [], ◌∷◌, ◌++◌, length, if◌then◌else◌, Option, Some, None}
 use Rattle.std.specs.List.{flat_map}
-use Rattle.scfs_base.specs.Limits.{turns_limit}
 use Rattle.scfs_base.specs.declared.cloud.CloudAnswer.{CloudAnswer}
 use Rattle.scfs_schedule.specs.declared.types.Event.{Event}
 use Rattle.scfs_schedule.specs.declared.types.Event.TheVariants as events
 use Rattle.scfs_model.specs.Format.{Setup, clouds_of}
 use Rattle.scfs_model.specs.Lists.{below}
+use Rattle.scfs_live.specs.Limits.{driven_turns}
 use Rattle.scfs_live.specs.Waits.{Waits, step_waits, reply_waits, call_waits, request_waits, answer_waits}
 use Rattle.scfs_live.specs.declared.driver.Next.{Next}
 use Rattle.scfs_live.specs.declared.driver.Next.TheVariants.{Does, Hears}
@@ -53,7 +53,7 @@ agent_called other = None
 
 -- after the event that was given
 abbrev pub begun : Setup → Event → Driver
-begun s event = record { given = None; work = round s; called = agent_called event; turns = turns_limit }
+begun s event = record { given = None; work = round s; called = agent_called event; turns = driven_turns }
 
 abbrev pub next_turn : Setup → Driver → (a : ℕ) → (turns : ℕ) → Option (Next × Driver)
 next_turn s d a zero = None
@@ -80,7 +80,8 @@ abbrev pub or_given : Setup → Waits → Driver → Option Event → Option (Ne
 or_given s w d None = or_anew s w d (next_work w d.work)
 or_given s w d (Some event) = Some (Does event, begun s event)
 
--- what comes next, and where driving is then; none where all is settled and no turn is to come
+-- What comes next, and where driving is then: the event that was given; else the rest of the round; else a round anew; else, with all
+-- settled, a turn of the agent whose call is unanswered. None where no turn is to come.
 abbrev pub next_within : Setup → Waits → Driver → Option (Next × Driver)
 next_within s w d = or_given s w d d.given
 

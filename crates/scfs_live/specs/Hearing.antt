@@ -6,9 +6,14 @@ use Rattle.scfs_base.specs.declared.outside.Memory.{Memory}
 use Rattle.scfs_cloud.specs.Asking.{Asks}
 use Rattle.scfs_net.specs.Queues.{NetState, cloud_at}
 use Rattle.scfs_net.specs.declared.messages.Asked.{Asked}
+use Rattle.scfs_model.specs.Clouds.{net}
+use Rattle.scfs_model.specs.History.{History}
+use Rattle.scfs_model.specs.UnitFormat.{under}
 use Rattle.scfs_schedule.specs.declared.types.Event.{Event}
+use Rattle.scfs_schedule.specs.declared.types.Header.{Header}
 use Rattle.scfs_live.specs.Asked.{Told}
 use Rattle.scfs_live.specs.Driven.{answer_in}
+use Rattle.scfs_live.specs.Driving.{event_of}
 use Rattle.scfs_live.specs.declared.driver.Next.{Next}
 use Rattle.scfs_live.specs.declared.driver.Next.TheVariants.{Does, Hears}
 
@@ -36,3 +41,8 @@ Heard (Hears c) net result before now = AtOne c (AsksOldest (cloud_at net c).req
 abbrev pub answer_made : Result Event Memory → Result CloudAnswer Memory
 answer_made (Ok event) = Ok (answer_in event)
 answer_made (Err memory) = Err memory
+
+-- an event is what comes next, with the answer that it says, and what was asked for it gave this answer
+pub record IsHeard (next : Next) (header : Header) (past : History) (before now : List Told) (event : Event) : Type 0 where
+  pub is : event ≡ event_of next (answer_in event)
+  pub heard : Heard next (net (under header) past) (Ok (answer_in event)) before now

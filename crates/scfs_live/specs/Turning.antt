@@ -14,12 +14,10 @@ use Rattle.scfs_model.specs.UnitFormat.{under}
 use Rattle.scfs_world.specs.Happening.{IsPlayed, Stands}
 use Rattle.scfs_world.specs.State.{WorldState}
 use Rattle.scfs_live.specs.Asked.{Told}
-use Rattle.scfs_live.specs.Driven.{answer_in}
-use Rattle.scfs_live.specs.Driving.{event_of}
 use Rattle.scfs_live.specs.Edges.{GetsPart}
-use Rattle.scfs_live.specs.Hearing.{Heard}
+use Rattle.scfs_live.specs.Hearing.{Heard, IsHeard}
 use Rattle.scfs_live.specs.Journal.{entry_lines, entry_piece}
-use Rattle.scfs_live.specs.Recording.{IsTooLargeNext}
+use Rattle.scfs_live.specs.TooLarge.{IsTooLargeNext}
 use Rattle.scfs_live.specs.declared.driver.Next.{Next}
 use Rattle.scfs_live.specs.declared.ending.LiveEnd.{LiveEnd}
 use Rattle.scfs_live.specs.declared.ending.LiveEnd.TheVariants as ends
@@ -49,11 +47,6 @@ Turned allows header past IsIt j j' o o' (Err (ends.TooLarge whiches.Objects)) =
     (event : Event) × IsIt event × IsTooLargeNext allows header past event × WroteNothing j j' o o'
 Turned allows header past IsIt j j' o o' (Err ends.Memory) = WroteNothing j j' o o'
 Turned allows header past IsIt j j' o o' (Err end) = ⊥
-
--- an event is what comes next, with the answer that it says, and what was asked for it gave this answer
-pub record IsHeard (next : Next) (header : Header) (past : History) (before now : List Told) (event : Event) : Type 0 where
-  pub is : event ≡ event_of next (answer_in event)
-  pub heard : Heard next (net (under header) past) (Ok (answer_in event)) before now
 
 -- What became of what comes next. As many events as there may be stand: no cloud is asked, and nothing is written. Or memory was
 -- wanting, also for an answer. Or its event was heard, and this became of it.

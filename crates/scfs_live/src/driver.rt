@@ -15,7 +15,7 @@ use std::collections::VecDeque;
 use std::marker::Model;
 
 /// The most turns that one call is given.
-const TURNS_LIMIT: u8 = 8;
+const DRIVEN_TURNS: u8 = 8;
 
 /// What is left of a round of settling.
 #[derive(Clone, Copy, Debug, PartialEq, Eq)]
@@ -146,7 +146,7 @@ impl Driver {
             alloc,
             work: round(alloc, header)?,
             called: agent_called(event),
-            turns: TURNS_LIMIT,
+            turns: DRIVEN_TURNS,
         })
     }
 

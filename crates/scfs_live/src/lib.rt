@@ -26,6 +26,6 @@ pub use going_on::{
     left_journals_go_on, stopped_calls_go_on, stops_leave_journals, walked_events_are_done,
     walked_lines_are_kept,
 };
-pub use laws::drives_make_runs;
+pub use laws::{drives_make_runs, stores_keep_step};
 pub use reopening::reopen;
 pub use writing::write_all;

@@ -2,11 +2,11 @@ use Rattle.std.proofs.Common.{◌≡◌, ◌+◌, ◌++◌, [], Bool, false, if�
 use Rattle.scfs_base.specs.Outside.{Takes}
 use Rattle.scfs_schedule.specs.Reading.{Reading, gives, read, with_header}
 use Rattle.scfs_schedule.specs.declared.types.Header.{Header}
+use Rattle.scfs_live.specs.Edges.{GetsPart}
 use Rattle.scfs_cli.specs.declared.closing.Finish.TheVariants as finishes
 use Rattle.scfs_cli.specs.declared.closing.Filled.TheVariants as filleds
 use Rattle.scfs_cli.specs.declared.intake.Given.{Given}
 use Rattle.scfs_cli.specs.declared.play.Played.TheVariants as playeds
-use Rattle.scfs_cli.specs.Edges.{GetsPart}
 use Rattle.scfs_cli.specs.Giving.{Draws}
 use Rattle.scfs_cli.specs.Playing.{events_played, finished, header_lines, played, under_header}
 use Rattle.scfs_cli.specs.Plays.{SoFar}

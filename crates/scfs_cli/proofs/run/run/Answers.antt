@@ -10,12 +10,13 @@ use Rattle.scfs_model.specs.UnitFormat.{under}
 use Rattle.scfs_live.specs.Able.{CanBeGiven}
 use Rattle.scfs_live.specs.Asked.{told}
 use Rattle.scfs_live.specs.Driving.{begins_with}
+use Rattle.scfs_live.specs.Reopening.{unwalked}
 use Rattle.scfs_live.specs.declared.ending.LiveEnd.TheVariants as lives
 use Rattle.scfs_cli.specs.declared.stopping.RunEnd.{RunEnd}
 use Rattle.scfs_cli.specs.declared.stopping.RunEnd.TheVariants as runs
 use Rattle.scfs_cli.specs.Scripting.{script_of}
 use Rattle.scfs_cli.specs.Underway.{EndsScript}
-use Rattle.scfs_cli.proofs.UnderwayLemmas.{begins, counts_on, drove_on, drove_to, ended, fewer, given_next, known_of, one_if_none, reads_open, rose_since, runs_on, same_why, states}
+use Rattle.scfs_cli.proofs.UnderwayLemmas.{begins, counts_on, drove_on, drove_to, ended, fewer, given_next, known_of, one_if_none, reads_open, rose_since, runs_on, same_why, states, walk_few}
 use Rattle.scfs_cli.proofs.run.run.Goals as goal
 
 pub returns-in-Err-reopen-clause-runs : goal.returns-in-Err-reopen-clause-runs
@@ -32,6 +33,9 @@ returns-in-Err-reopen-clause-runs g c =
         stated = states _ _ _ _ _ read.0;
         pace = read.1;
         reopening = reopen.ends;
+        known = λ lines place again.
+            known_of _ c.in-Ok.header place.past c.runs_without_clash.ensures c.reads_are_held.ensures c.opens_are_newest.ensures.made c.in-Ok.ensures.header.0
+            (walk_few c.in-Ok.header (unwalked c.in-Ok.header) lines place again.walks (omega arith)) again.plays;
         read_failed = reopen.read_fault;
         write_failed = reopen.write_fault;
         out_stays = refl;

@@ -5,7 +5,7 @@ use Rattle.scfs_live.proofs.driving.begin.Goals as goal
 
 pub returns-in-None-clause-begun : goal.returns-in-None-clause-begun
 returns-in-None-clause-begun g c =
-    none_begun _ c.args.world (option_copied c.args.event) (ap option_copied c.in-None.is) _ _ c.begin_settling.result c.begin_settling.ensures.begun
+    none_begun _ c.args.world (option_copied c.args.event) (ap option_copied c.in-None.is) _ _ c.requires.room c.begin_settling.result c.begin_settling.ensures.begun
 
 pub returns-in-None-clause-ended : goal.returns-in-None-clause-ended
 returns-in-None-clause-ended g c =

@@ -25,7 +25,7 @@ events-init g c =
 
 pub returns-in_default-clause-ends : goal.returns-in_default-clause-ends
 returns-in_default-clause-ends g c = λ header past stands played.
-    drive_wanting _ header (option_copied c.args.event) past _ _ _ _ _ _ _ _ (c.events.invariant.going header past stands played) c.events.invariant.few
+    drive_wanting _ header (option_copied c.args.event) past _ _ _ _ _ _ _ _ (c.events.invariant.going header past stands played)
 
 pub returns-in_default-found-clause-drives : goal.returns-in_default-found-clause-drives
 returns-in_default-found-clause-drives g c = λ header past stands played.
@@ -63,4 +63,4 @@ returns-in-Err-advance-clause-ends g c = λ header past stands played.
     let i = c.events.invariant in
     let old = i.going header past stands played in
     drive_came c.events.world c.events.driver c.next.new.self c.in-Ok-next.found c.in-Ok-next.ensures _ header (option_copied c.args.event) past _ _ _ _ _ _ _ _ _ old
-    i.few i.fits c.in-Some.next c.in-Some.is c.in-Err-advance.end (c.in-Err-advance.ensures.advanced header _ old.stands old.drove.plays)
+    i.fits c.in-Some.next c.in-Some.is c.in-Err-advance.end (c.in-Err-advance.ensures.advanced header _ old.stands old.drove.plays)
