@@ -8,20 +8,16 @@ use Rattle.scfs_schedule.specs.Holding.{is_unfinished}
 use Rattle.scfs_schedule.specs.Text.{event_text, header_text}
 use Rattle.scfs_schedule.specs.declared.types.Header.{Header}
 use Rattle.scfs_schedule.specs.declared.types.Line.{Line}
-use Rattle.scfs_schedule.specs.declared.types.Which.TheVariants as whichs
 use Rattle.scfs_model.specs.History.{Entry, History}
 use Rattle.scfs_live.specs.declared.awaited.Awaited.{Awaited}
 use Rattle.scfs_live.specs.Finding.{is_left_out}
 use Rattle.scfs_live.specs.GoingOn.{awaited_lines, event_lines, journal_lines, kept_lines}
 use Rattle.scfs_live.specs.Journal.{entry_piece, kept_line, pieces_of}
 use Rattle.scfs_live.specs.Keeping.{all_but_last, awaited_text, ended, ended_kept, made_line, mark_if, whole_lines}
-use Rattle.scfs_live.specs.Leaving.{LeftJournalsGoOn, StopsLeaveJournals}
-use Rattle.scfs_live.specs.Limits.{journal_limit}
-use Rattle.scfs_live.specs.Reopened.{old_lines}
-use Rattle.scfs_live.proofs.GoingOnLemmas.{first_lines_go_on}
+use Rattle.scfs_live.specs.Leaving.{StopsLeaveJournals}
 use Rattle.scfs_live.proofs.KeepingLemmas.{all_but_last-pieces}
 use Rattle.scfs_live.proofs.PlainLemmas.{ArePlain, HoldsNoEnd, are_plain_event, are_plain_rows, are_plain_then, header_rows, no_end_then, rows_text}
-use Rattle.scfs_live.proofs.SplitLemmas.{is_unfinished-append, split_whole}
+use Rattle.scfs_live.proofs.SplitLemmas.{is_unfinished-append}
 
 -- a text without a line's end is one piece
 alone : (w : List ℕ) → HoldsNoEnd w → pieces 10 w ≡ w ∷ []
@@ -320,8 +316,3 @@ stops_leave_journals header place new old front back kept is =
     ∙ sym (append_assoc (mark_if (is_unfinished old)) (awaited_text place.awaited) (pieces_of new past)) ∙ is in
     let l = leaves old front back lines (is_unfinished old) (plain_behind kept_ones lines (subst ArePlain journal (journal_plain header (new ++ past)))) refl text in
     (l.later, journal ∙ ap (λ ls. kept_ones ++ ls) l.all ∙ sym (append_assoc kept_ones l.more l.later) ∙ ap (λ ls. ls ++ l.later) (sym l.kept))
-
-pub left_journals_go_on : LeftJournalsGoOn
-left_journals_go_on header past text done left within =
-    first_lines_go_on header past (old_lines text).lines left.0 done
-    (left.1 ∙ ap (λ ls. kept_lines ls ++ left.0) (sym (split_whole journal_limit whichs.Journal text within)))

@@ -53,4 +53,4 @@ StoppedCallsLeave =
     (allows : RankFacts → ℕ → Type 0) (header : Header) (script : List Event) (place : Walk) (new : History) (old front back : List ℕ)
     → RunsAll allows header old place → WereDriven allows header script new place.past
     → missing (is_unfinished old) place.awaited ++ pieces_of new place.past ≡ front ++ back → (old_lines (old ++ front)).passed ≡ None
-    → IsLeftOf header (new ++ place.past) (old ++ front)
+    → IsLeftOf allows header (new ++ place.past) (old ++ front)
