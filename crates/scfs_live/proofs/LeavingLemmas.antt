@@ -225,6 +225,18 @@ record Leaves (text front : List ℕ) (lines : List (List ℕ)) : Type 0 where
   all : lines ≡ more ++ later
   kept : kept_lines (whole_lines (text ++ front)) ≡ kept_lines (whole_lines text) ++ more
 
+-- the whole lines of a front of a text are the first of its own
+pub whole_lines-front : (text more : List ℕ) → (others : List (List ℕ)) × (whole_lines (text ++ more) ≡ whole_lines text ++ others)
+whole_lines-front text more =
+    let p = parts text in
+    let whole : whole_lines text ≡ p.lines =
+    ap whole_lines p.is ∙ whole_lines-append p.lines p.rest p.no_ends ∙ ap (λ ls. p.lines ++ ls) (no_whole_lines p.rest p.no_end) ∙ append-nil p.lines in
+    (
+      whole_lines (p.rest ++ more),
+      ap (λ t. whole_lines (t ++ more)) p.is ∙ ap whole_lines (append_assoc (flat_map ended p.lines) p.rest more)
+      ∙ whole_lines-append p.lines (p.rest ++ more) p.no_ends ∙ ap (λ ls. ls ++ whole_lines (p.rest ++ more)) (sym whole),
+    )
+
 -- behind the parts of a text
 leaves_parts : (text front : List ℕ) (lines : List (List ℕ)) (p : Parts text) (more later : List (List ℕ)) → lines ≡ more ++ later
     → kept_lines (whole_lines (p.rest ++ front)) ≡ more → Leaves text front lines
