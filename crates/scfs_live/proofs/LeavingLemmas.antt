@@ -230,11 +230,10 @@ pub whole_lines-front : (text more : List ℕ) → (others : List (List ℕ)) ×
 whole_lines-front text more =
     let p = parts text in
     let whole : whole_lines text ≡ p.lines =
-    ap whole_lines p.is ∙ whole_lines-append p.lines p.rest p.no_ends ∙ ap (λ ls. p.lines ++ ls) (no_whole_lines p.rest p.no_end) ∙ append-nil p.lines in
-    (
+    ap whole_lines p.is ∙ whole_lines-append p.lines p.rest p.no_ends ∙ ap (λ ls. p.lines ++ ls) (no_whole_lines p.rest p.no_end) ∙ append-nil p.lines in (
       whole_lines (p.rest ++ more),
       ap (λ t. whole_lines (t ++ more)) p.is ∙ ap whole_lines (append_assoc (flat_map ended p.lines) p.rest more)
-      ∙ whole_lines-append p.lines (p.rest ++ more) p.no_ends ∙ ap (λ ls. ls ++ whole_lines (p.rest ++ more)) (sym whole),
+          ∙ whole_lines-append p.lines (p.rest ++ more) p.no_ends ∙ ap (λ ls. ls ++ whole_lines (p.rest ++ more)) (sym whole),
     )
 
 -- behind the parts of a text

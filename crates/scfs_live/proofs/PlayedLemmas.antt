@@ -112,5 +112,9 @@ module _ (s : Setup) where
   carried_more [] old = omega arith
   carried_more (e ∷ new) old =
       let before = net s (new ++ old) in
-      omega (arith, carried_more new old, moved_more e.event before,
-      asked_more (effect_after s rows (new ++ old) e).sent (moved_by e.event before))
+      omega (
+        arith,
+        carried_more new old,
+        moved_more e.event before,
+        asked_more (effect_after s rows (new ++ old) e).sent (moved_by e.event before),
+      )

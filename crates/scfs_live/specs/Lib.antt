@@ -16,6 +16,8 @@ pub mod Recording
 pub mod Reopened
 pub mod Reopening
 pub mod Rereading
+pub mod RunAgain
+pub mod Stopped
 pub mod Taking
 pub mod TooLarge
 pub mod Turning

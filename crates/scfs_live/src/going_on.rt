@@ -1,12 +1,15 @@
 //! What holds of every journal that was left; the functions only carry the laws.
 
 ghost use Rattle.scfs_live.specs.GoingOn.{WalkedAreDone, WalkedAreKept};
-ghost use Rattle.scfs_live.specs.Leaving.{LeftJournalsGoOn, StoppedCallsGoOn, StopsLeaveJournals};
+ghost use Rattle.scfs_live.specs.Leaving.{StopsLeaveJournals};
+ghost use Rattle.scfs_live.specs.RunAgain.{LeftJournalsReopen};
+ghost use Rattle.scfs_live.specs.Stopped.{DrivenAreDone, StoppedCallsLeave};
 
-/// What is left of the journal of a history is run again without a stop, up to a history of the first events of that one; each kept
-/// line is the one that was made.
-pub fn left_journals_go_on()
-    ensures { LeftJournalsGoOn }
+/// Over what is left of the journal of a history reopening answers a world that stands for the events whose lines are whole, with the
+/// kept lines as they are made now; or reading or writing failed, or memory was wanting; or the rank rule answers otherwise than before,
+/// and then a line differs or an event is too large. No line is bad, and no other limit is passed.
+pub fn left_journals_reopen()
+    ensures { LeftJournalsReopen }
 {}
 
 /// Whatever front of what was to be written a stop leaves behind an old journal, it is left of the journal with the new events.
@@ -25,8 +28,13 @@ pub fn walked_lines_are_kept()
     ensures { WalkedAreKept }
 {}
 
-/// What a call leaves behind an old journal that it ran again, whatever the byte at which it is stopped, is run again without a stop,
-/// up to a history of the first events.
-pub fn stopped_calls_go_on()
-    ensures { StoppedCallsGoOn }
+/// So are the events that the run of a script makes.
+pub fn driven_events_are_done()
+    ensures { DrivenAreDone }
+{}
+
+/// What a call leaves that ran an old journal again and drove a script, whatever the byte at which it is stopped, is left of the journal
+/// of its events: what reopening answers over it is said above.
+pub fn stopped_calls_leave()
+    ensures { StoppedCallsLeave }
 {}
