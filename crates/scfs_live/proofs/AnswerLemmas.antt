@@ -22,7 +22,7 @@ use Rattle.scfs_live.specs.Finding.{found, is_left_out}
 use Rattle.scfs_live.specs.GoingOn.{AreDone, awaited_lines, journal_lines, kept_lines}
 use Rattle.scfs_live.specs.Keeping.{whole_lines}
 use Rattle.scfs_live.specs.Reopening.{EndsAt, RunsAgain, Walk, Walks, unwalked}
-use Rattle.scfs_live.specs.RunAgain.{DiffersAgain, EndsLeft, GoesAgain, GoesUpTo, TooLargeAgain, events_of, ranks_of}
+use Rattle.scfs_live.specs.RunAgain.{DiffersAgain, EndsLeft, GoesAgain, GoesUpTo, TooLargeAgain, any_answer, events_of, ranks_of}
 use Rattle.scfs_live.specs.TooLarge.{IsTooLargeNext, entry_after}
 use Rattle.scfs_live.proofs.AlongLemmas.{Stood, seen_at, stood}
 use Rattle.scfs_live.proofs.BesideLemmas.{Does_next, Keeps_header, Keeps_line, Other, Seen}
@@ -89,9 +89,9 @@ spaced_same (x ∷ xs) (y ∷ ys) is =
     ap (λ l. l ∷ xs) head ∙ ap (λ ls. y ∷ ls) (spaced_same xs ys tail)
 
 -- a history whose journal was left, and which was played
-module _ (allowed allows : RankFacts → ℕ → Type 0) (header : Header) (past : History) (done : AreDone header past) (plays : IsPlayed allowed header past) where
+module _ (allows : RankFacts → ℕ → Type 0) (header : Header) (past : History) (done : AreDone header past) (plays : IsPlayed any_answer header past) where
   -- a walk beside it
-  goes_from : (lines later : List (List ℕ)) (place : Walk) → Stood header past place (kept_lines lines) later → Walks header (unwalked header) lines place
+  abbrev goes_from : (lines later : List (List ℕ)) (place : Walk) → Stood header past place (kept_lines lines) later → Walks header (unwalked header) lines place
       → GoesAgain header past lines place
   goes_from lines later place s walks = record {
     whole = s.old;
@@ -182,9 +182,6 @@ module _ (allowed allows : RankFacts → ℕ → Type 0) (header : Header) (past
     ends_differs is made differs ends.Memory e = nothing
 
     module _ (rest : List (List ℕ)) (s : Stood header past place (kept_lines before) (line ∷ rest)) where
-      goes : GoesAgain header past before place
-      goes = goes_from before (line ∷ rest) place s walks
-
       -- the next old event is too large
       large_next : (e : Entry) (others : List Entry) → s.next ≡ e ∷ others → line ≡ event_text e.event
           → IsTooLargeNext allows header place.past e.event → TooLargeAgain allows header past (whole_lines text)

@@ -16,7 +16,6 @@ use Rattle.scfs_live.specs.Reopening.{Follows, Walk, Walks, with_event}
 use Rattle.scfs_live.specs.RunAgain.{HasLast, events_of}
 use Rattle.scfs_live.proofs.FoundLemmas.{bytes_eq-equal, found_beyond, found_early, found_event, found_header_line, found_left_out, found_line}
 use Rattle.scfs_live.proofs.GoingOnLemmas.{AreNext, at, next_lines, onto, spaced, spaced-map}
-use Rattle.scfs_live.proofs.KeptLemmas.{bytes_eq-true}
 
 -- The events so far are these old ones; of their journal so many lines were kept, and behind the header's lines these lines are to come.
 pub record Spot (header : Header) (past : History) (first : List (List ℕ)) (old : History) (kept waiting : List (List ℕ)) (next : List Entry) : Type 0 where

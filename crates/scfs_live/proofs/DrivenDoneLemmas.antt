@@ -4,6 +4,7 @@ use Rattle.std.specs.Prelude.{if◌then◌else◌, IfSome}
 use Rattle.scfs_anchor.specs.Tree.{Each}
 use Rattle.scfs_base.specs.Limits.{events_limit}
 use Rattle.scfs_base.specs.declared.cloud.CloudAnswer.{CloudAnswer}
+use Rattle.scfs_policy.specs.declared.rank.RankFacts.{RankFacts}
 use Rattle.scfs_schedule.specs.Grammar.{IsEvent, IsHeader}
 use Rattle.scfs_schedule.specs.Written.{IsInRange}
 use Rattle.scfs_schedule.specs.declared.types.Event.{Event}
@@ -190,6 +191,6 @@ module _ (header : Header) (is : IsHeader header) where
     holding_are_done new old each.1 bytes.1 are.2 (omega (arith, few)) done,
   )
 
-pub driven_are_done : DrivenAreDone
+pub driven_are_done : (allows : RankFacts → ℕ → Type 0) → DrivenAreDone allows
 driven_are_done allows header script new old were done =
     holding_are_done header were.header_is new old (driven_holds header were.header_is script new old were.given were.driven) were.said were.plays.events were.few done

@@ -1,6 +1,7 @@
 -- Histories that were played: each entry is what its event, its message and the answers of the rank rule make of it.
-use Rattle.std.proofs.Common.{◌≡◌, ◌≢◌, ◌≤◌, ℕ, ◌+◌, List, [], ◌∷◌, ◌++◌, refl, ap, ◌∙◌, sym, subst, Option, length, map, arith}
+use Rattle.std.proofs.Common.{◌≡◌, ◌≤◌, ℕ, suc, List, [], ◌∷◌, ◌++◌, refl, ap, ◌∙◌, sym, subst, Option, length, map, arith}
 use Rattle.std.specs.Prelude.{fold}
+use Rattle.scfs_policy.specs.declared.rank.RankFacts.{RankFacts}
 use Rattle.scfs_schedule.specs.declared.types.Event.{Event}
 use Rattle.scfs_schedule.specs.declared.types.Event.TheVariants as events
 use Rattle.scfs_schedule.specs.declared.types.Line.{Line}
@@ -10,8 +11,8 @@ use Rattle.scfs_model.specs.Clouds.{IsServed, all_asked, asked_by, message_of, m
 use Rattle.scfs_model.specs.Format.{Setup}
 use Rattle.scfs_model.specs.History.{Entry, History, Message}
 use Rattle.scfs_model.specs.Layers.{rows}
-use Rattle.scfs_model.specs.Runs.{Happens, effect_after, made}
-use Rattle.scfs_live.specs.RunAgain.{events_of, ranks_of}
+use Rattle.scfs_model.specs.Runs.{Answers, Happens, IsRanked, effect_after, made}
+use Rattle.scfs_live.specs.RunAgain.{any_answer, events_of, ranks_of}
 use Rattle.scfs_live.specs.TooLarge.{entry_after}
 
 -- histories with as many events are equally long
@@ -21,7 +22,7 @@ same_length [] (y ∷ b) same = cc
 same_length (x ∷ a) [] same = cc
 same_length (x ∷ a) (y ∷ b) same =
     let rest : events_of a ≡ events_of b = cc in
-    ap (λ n. n + 1) (same_length a b rest)
+    ap (λ n. suc n) (same_length a b rest)
 
 entry : Event → List Line → List ℕ → Option Message → Entry
 entry event lines ranks message = record { event = event; lines = lines; ranks = ranks; message = message }
@@ -69,6 +70,17 @@ module _ (s : Setup) where
       let message : message_of (net s past) e.event ≡ e.message = sym served.0 in
       entry_same (entry_after s past e.event e.ranks) e refl
       (ap (λ v. lines_by past e.event e.ranks v) message ∙ sym happens.0) refl message
+
+  -- what the rank rule was asked was answered, whatever it answered
+  any_answers : (allows : RankFacts → ℕ → Type 0) (asked : List RankFacts) (ranks : List ℕ) → Answers allows asked ranks → Answers any_answer asked ranks
+  any_answers allows [] [] h = tt
+  any_answers allows [] (rank ∷ ranks) h = h
+  any_answers allows (x ∷ xs) [] h = h
+  any_answers allows (x ∷ xs) (rank ∷ ranks) h = (tt, h.1, any_answers allows xs ranks h.2)
+
+  pub any_ranked : (allows : RankFacts → ℕ → Type 0) (past : History) → IsRanked s allows past → IsRanked s any_answer past
+  any_ranked allows [] h = tt
+  any_ranked allows (e ∷ past) h = (any_answers allows (effect_after s rows past e).ranked e.ranks h.0, any_ranked allows past h.1)
 
   -- what holds of a history holds of its first events
   pub happens_before : (new old : History) → Happens s (new ++ old) → Happens s old

@@ -37,12 +37,12 @@ all_taken text taken left' takes none =
 not_none : (o : Option Which) (which : Which) → o ≡ None → o ≡ Some which → ⊥
 not_none o which none some = cc
 
-module _ (allowed allows : RankFacts → ℕ → Type 0) (header : Header) (past : History) (text : List ℕ) (left : IsLeftOf allowed header past text) where
+module _ (allows : RankFacts → ℕ → Type 0) (header : Header) (past : History) (text : List ℕ) (left : IsLeftOf header past text) where
   -- all of it was run again
   goes_all : (taken : List ℕ) (place : Walk) → taken ≡ text → RunsAll allows header taken place → GoesAgain header past (whole_lines text) place
   goes_all taken place same runs =
       let lines : (old_lines taken).lines ≡ whole_lines text = split_whole journal_limit whichs.Journal taken runs.within ∙ ap whole_lines same in
-      goes_again allowed allows header past left.done left.plays (whole_lines text) left.left.0 place left.left.1
+      goes_again allows header past left.done left.plays (whole_lines text) left.left.0 place left.left.1
       (subst (λ ls. Walks header (unwalked header) ls place) lines runs.runs.walks)
 
   module _ (left' : Option (List ℕ)) (ends_then ends_now : ℕ) (earlier after : Option (List ℕ)) where
@@ -78,7 +78,7 @@ module _ (allowed allows : RankFacts → ℕ → Type 0) (header : Header) (past
         let parts : whole_lines text ≡ s.before ++ s.line ∷ (s.later ++ front.0) =
         ap whole_lines takes.2 ∙ front.1 ∙ ap (λ ls. ls ++ front.0) (sym (split_whole journal_limit whichs.Journal taken within) ∙ s.whole)
         ∙ append_assoc s.before (s.line ∷ s.later) front.0 in
-        ends_at allowed allows header past left.done left.plays text earlier after nothing s.before (s.later ++ front.0) s.line parts s.place s.runs.plays s.runs.walks
+        ends_at allows header past left.done left.plays text earlier after nothing s.before (s.later ++ front.0) s.line parts s.place s.runs.plays s.runs.walks
         left.left.0 end left.left.1 s.ends
 
     abbrev Stops : LiveEnd → Type 0
@@ -97,10 +97,10 @@ module _ (allowed allows : RankFacts → ℕ → Type 0) (header : Header) (past
     ended (ends.WriteFault whichs.Journal) e = unwritten e
     ended end e = unread end e
 
-pub left_journals_reopen : LeftJournalsReopen
-left_journals_reopen = record {
-  world = λ allowed allows header past text left' ends_then ends_now before after world left r.
-      reopened allowed allows header past text left left' ends_then ends_now before after world r;
-  end = λ allowed allows header past text left' ends_then ends_now before after end left e.
-      ended allowed allows header past text left left' ends_then ends_now before after end e;
+pub left_journals_reopen : (allows : RankFacts → ℕ → Type 0) → LeftJournalsReopen allows
+left_journals_reopen allows = record {
+  world = λ header past text left' ends_then ends_now before after world left r.
+      reopened allows header past text left left' ends_then ends_now before after world r;
+  end = λ header past text left' ends_then ends_now before after end left e.
+      ended allows header past text left left' ends_then ends_now before after end e;
 }

@@ -3,7 +3,7 @@ use Rattle.std.specs.Prelude.{◌≡◌, ℕ, List, ◌++◌, None}
 use Rattle.scfs_schedule.specs.Holding.{is_unfinished}
 use Rattle.scfs_schedule.specs.declared.types.Header.{Header}
 use Rattle.scfs_model.specs.History.{History}
-use Rattle.scfs_live.specs.GoingOn.{AreDone, GoesOnBehind, awaited_lines, journal_lines, kept_lines}
+use Rattle.scfs_live.specs.GoingOn.{awaited_lines, journal_lines, kept_lines}
 use Rattle.scfs_live.specs.Journal.{pieces_of}
 use Rattle.scfs_live.specs.Keeping.{missing, whole_lines}
 use Rattle.scfs_live.specs.Reopened.{old_lines}

@@ -83,10 +83,14 @@ pub record TooLargeAgain (allows : RankFacts → ℕ → Type 0) (header : Heade
   pub large : carried_limit < (net (under header) (entry_after (under header) goes.place.past next.event ranks ∷ goes.place.past)).carried
   pub otherwise : ranks ∷ ranks_of goes.place.past ≢ ranks_of (next ∷ goes.again.whole)
 
--- a text is what is left of the journal of a history that was played by some rank rule, and keeps the limits of an old journal
-pub record IsLeftOf (allowed : RankFacts → ℕ → Type 0) (header : Header) (past : History) (text : List ℕ) : Type 0 where
+-- whatever a rank rule answers
+abbrev pub any_answer : RankFacts → ℕ → Type 0
+any_answer facts rank = Unit {0}
+
+-- a text is what is left of the journal of a history that was played, by whatever rank rule, and keeps the limits of an old journal
+pub record IsLeftOf (header : Header) (past : History) (text : List ℕ) : Type 0 where
   pub done : AreDone header past
-  pub plays : IsPlayed allowed header past
+  pub plays : IsPlayed any_answer header past
   pub left : IsLeft header past text
   pub within : (old_lines text).passed ≡ None
 
@@ -116,13 +120,13 @@ EndsLeft allows header past text before after ends.Memory = after ≡ before
 EndsLeft allows header past text before after end = ⊥
 
 -- Over what is left of a journal, where the source tells it, reopening answers a world that stands for the events that left their whole
--- lines, or ends in one of these ways.
-pub record LeftJournalsReopen : Type 0 where
+-- lines, or ends in one of these ways. `allows` are the answers that the rank rule may give now.
+pub record LeftJournalsReopen (allows : RankFacts → ℕ → Type 0) : Type 0 where
   pub world :
-      (allowed allows : RankFacts → ℕ → Type 0) (header : Header) (past : History) (text : List ℕ) (left' : Option (List ℕ)) (ends_then ends_now : ℕ)
-      (before after : Option (List ℕ)) (world : WorldState) → IsLeftOf allowed header past text
-      → Reopens allows header (Some text) left' ends_then ends_now before after world → ReopensAgain header past text before after world
+      (header : Header) (past : History) (text : List ℕ) (left' : Option (List ℕ)) (ends_then ends_now : ℕ) (before after : Option (List ℕ))
+      (world : WorldState) → IsLeftOf header past text → Reopens allows header (Some text) left' ends_then ends_now before after world
+      → ReopensAgain header past text before after world
   pub end :
-      (allowed allows : RankFacts → ℕ → Type 0) (header : Header) (past : History) (text : List ℕ) (left' : Option (List ℕ)) (ends_then ends_now : ℕ)
-      (before after : Option (List ℕ)) (end : LiveEnd) → IsLeftOf allowed header past text
-      → EndsReopening allows header (Some text) left' ends_then ends_now before after end → EndsLeft allows header past text before after end
+      (header : Header) (past : History) (text : List ℕ) (left' : Option (List ℕ)) (ends_then ends_now : ℕ) (before after : Option (List ℕ))
+      (end : LiveEnd) → IsLeftOf header past text → EndsReopening allows header (Some text) left' ends_then ends_now before after end
+      → EndsLeft allows header past text before after end

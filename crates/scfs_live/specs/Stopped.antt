@@ -41,16 +41,16 @@ pub record WereDriven (allows : RankFacts → ℕ → Type 0) (header : Header) 
   pub few : length (new ++ old) ≤ events_limit
 
 -- they are read again from their lines, and the program can do them
-abbrev pub DrivenAreDone : Type 0
-DrivenAreDone =
-    (allows : RankFacts → ℕ → Type 0) (header : Header) (script : List Event) (new old : History) → WereDriven allows header script new old
+abbrev pub DrivenAreDone : (allows : RankFacts → ℕ → Type 0) → Type 0
+DrivenAreDone allows =
+    (header : Header) (script : List Event) (new old : History) → WereDriven allows header script new old
     → AreDone header old → AreDone header (new ++ old)
 
 -- A call ran an old journal again to a place, drove a script behind it, and wrote any front of what was missing and of the pieces of the
 -- new events: what it leaves, if it keeps the limits of an old journal, is left of the journal of all these events.
-abbrev pub StoppedCallsLeave : Type 0
-StoppedCallsLeave =
-    (allows : RankFacts → ℕ → Type 0) (header : Header) (script : List Event) (place : Walk) (new : History) (old front back : List ℕ)
+abbrev pub StoppedCallsLeave : (allows : RankFacts → ℕ → Type 0) → Type 0
+StoppedCallsLeave allows =
+    (header : Header) (script : List Event) (place : Walk) (new : History) (old front back : List ℕ)
     → RunsAll allows header old place → WereDriven allows header script new place.past
     → missing (is_unfinished old) place.awaited ++ pieces_of new place.past ≡ front ++ back → (old_lines (old ++ front)).passed ≡ None
-    → IsLeftOf allows header (new ++ place.past) (old ++ front)
+    → IsLeftOf header (new ++ place.past) (old ++ front)

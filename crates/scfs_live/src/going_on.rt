@@ -5,11 +5,13 @@ ghost use Rattle.scfs_live.specs.Leaving.{StopsLeaveJournals};
 ghost use Rattle.scfs_live.specs.RunAgain.{LeftJournalsReopen};
 ghost use Rattle.scfs_live.specs.Stopped.{DrivenAreDone, StoppedCallsLeave};
 
+use scfs_policy::{RankFacts, RankRule};
+
 /// Over what is left of the journal of a history reopening answers a world that stands for the events whose lines are whole, with the
 /// kept lines as they are made now; or reading or writing failed, or memory was wanting; or the rank rule answers otherwise than before,
 /// and then a line differs or an event is too large. No line is bad, and no other limit is passed.
-pub fn left_journals_reopen()
-    ensures { LeftJournalsReopen }
+pub fn left_journals_reopen<R: Fn(RankFacts) -> u64>(rank: &RankRule<R>)
+    ensures { LeftJournalsReopen (R.post rank.now) }
 {}
 
 /// Whatever front of what was to be written a stop leaves behind an old journal, it is left of the journal with the new events.
@@ -29,12 +31,12 @@ pub fn walked_lines_are_kept()
 {}
 
 /// So are the events that the run of a script makes.
-pub fn driven_events_are_done()
-    ensures { DrivenAreDone }
+pub fn driven_events_are_done<R: Fn(RankFacts) -> u64>(rank: &RankRule<R>)
+    ensures { DrivenAreDone (R.post rank.now) }
 {}
 
 /// What a call leaves that ran an old journal again and drove a script, whatever the byte at which it is stopped, is left of the journal
 /// of its events: what reopening answers over it is said above.
-pub fn stopped_calls_leave()
-    ensures { StoppedCallsLeave }
+pub fn stopped_calls_leave<R: Fn(RankFacts) -> u64>(rank: &RankRule<R>)
+    ensures { StoppedCallsLeave (R.post rank.now) }
 {}
