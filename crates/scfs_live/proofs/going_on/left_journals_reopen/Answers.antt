@@ -2,4 +2,4 @@ use Rattle.scfs_live.proofs.RunAgainLemmas as lemmas
 use Rattle.scfs_live.proofs.going_on.left_journals_reopen.Goals as goal
 
 pub returns : goal.returns
-returns c = lemmas.left_journals_reopen _
+returns g c = lemmas.left_journals_reopen _
