@@ -16,7 +16,7 @@ use Rattle.scfs_model.specs.History.{Entry, History}
 use Rattle.scfs_model.specs.UnitFormat.{under}
 use Rattle.scfs_laws.specs.Laws.{AreEvents}
 use Rattle.scfs_world.specs.Built.{is_built}
-use Rattle.scfs_live.specs.Driven.{IsDriven, Live, answer_in, event_in, live_after, live_in, next, next_by, next_of_script, or_script}
+use Rattle.scfs_live.specs.Driven.{IsDriven, Live, answer_in, event_in, first_live, live_after, live_in, next, next_by, next_of_script, or_script}
 use Rattle.scfs_live.specs.Driving.{Driver, begun, event_of, next_settled, next_turn, next_within, next_work, or_anew, or_given, or_settled, round, with_work}
 use Rattle.scfs_live.specs.GoingOn.{AreDone}
 use Rattle.scfs_live.specs.Stopped.{DrivenAreDone, IsGiven, SaysBytes}
@@ -153,7 +153,7 @@ module _ (P : Event → Type 0) (space : (a : ℕ) → P (events.Space a)) (told
 
   driven_so : (s : Setup) (script : List Event) (new old : History) → Each P script → IsDriven s script new old
       → Each (λ (e : Entry). P e.event) new × AllSo (live_after s script new old)
-  driven_so s script [] old each driven = (tt, λ l at. (let there : (record { driver = _; script = script }) ≡ l = cc in subst IsSo there (tt, each)))
+  driven_so s script [] old each driven = (tt, λ l at. (let there : first_live s script ≡ l = cc in subst IsSo there (tt, each)))
   driven_so s script (e ∷ new) old each driven =
       let before = driven_so s script new old each driven.1 in
       let one = one_event s (new ++ old) (answer_in e.event) e.event (live_after s script new old) before.1 driven.0 in
