@@ -23,6 +23,7 @@ pub mod LeavingLemmas
 pub mod LineLemmas
 pub mod PlainLemmas
 pub mod PlayedLemmas
+pub mod RankedLemmas
 pub mod RoundLemmas
 pub mod RowDriven
 pub mod RowReopened
