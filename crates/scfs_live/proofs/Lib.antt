@@ -21,6 +21,7 @@ pub mod KeepingLemmas
 pub mod KeptLemmas
 pub mod LeavingLemmas
 pub mod LineLemmas
+pub mod OneRuleLemmas
 pub mod PlainLemmas
 pub mod PlayedLemmas
 pub mod RankedLemmas

@@ -46,21 +46,23 @@ module _ (allows : RankFacts → ℕ → Type 0) (header : Header) (past : Histo
       (subst (λ ls. Walks header (unwalked header) ls place) lines runs.runs.walks)
 
   module _ (left' : Option (List ℕ)) (ends_then ends_now : ℕ) (earlier after : Option (List ℕ)) where
-    reopened : (world : WorldState) → Reopens allows header (Some text) left' ends_then ends_now earlier after world → ReopensAgain header past text earlier after world
+    reopened : (world : WorldState) → Reopens allows header (Some text) left' ends_then ends_now earlier after world → ReopensAgain allows header past text earlier after world
     reopened world r =
         let same = all_taken text r.taken left' r.reads.takes r.reads.nothing_left in
         record {
           place = r.place;
+          plays = r.reads.runs.runs.plays;
           again = goes_all r.taken r.place same r.reads.runs;
           stands = r.stands;
           wrote = subst (λ t. Puts earlier after (missing (is_unfinished t) r.place.awaited)) same r.wrote;
         }
 
-    unwritten : Unwritten allows header (Some text) left' ends_then ends_now earlier after → UnwrittenAgain header past text earlier after
+    unwritten : Unwritten allows header (Some text) left' ends_then ends_now earlier after → UnwrittenAgain allows header past text earlier after
     unwritten r =
         let same = all_taken text r.taken left' r.reads.takes r.reads.nothing_left in
         record {
           place = r.place;
+          plays = r.reads.runs.runs.plays;
           again = goes_all r.taken r.place same r.reads.runs;
           wrote = subst (λ t. GetsPart earlier after (missing (is_unfinished t) r.place.awaited)) same r.wrote;
         }

@@ -95,22 +95,25 @@ pub record IsLeftOf (header : Header) (past : History) (text : List ℕ) : Type 
   pub within : (old_lines text).passed ≡ None
 
 -- it was reopened: the world stands for the events that left their whole lines, and what is missing of the last one was written
-pub record ReopensAgain (header : Header) (past : History) (text : List ℕ) (before after : Option (List ℕ)) (world : WorldState) : Type 0 where
+pub record ReopensAgain (allows : RankFacts → ℕ → Type 0) (header : Header) (past : History) (text : List ℕ) (before after : Option (List ℕ))
+    (world : WorldState) : Type 0 where
   pub place : Walk
+  pub plays : IsPlayed allows header place.past
   pub again : GoesAgain header past (whole_lines text) place
   pub stands : Stands world header place.past
   pub wrote : Puts before after (missing (is_unfinished text) place.awaited)
 
 -- or not all that is missing
-pub record UnwrittenAgain (header : Header) (past : History) (text : List ℕ) (before after : Option (List ℕ)) : Type 0 where
+pub record UnwrittenAgain (allows : RankFacts → ℕ → Type 0) (header : Header) (past : History) (text : List ℕ) (before after : Option (List ℕ)) : Type 0 where
   pub place : Walk
+  pub plays : IsPlayed allows header place.past
   pub again : GoesAgain header past (whole_lines text) place
   pub wrote : GetsPart before after (missing (is_unfinished text) place.awaited)
 
 -- How else it may end: reading or writing failed, or memory was wanting; or where the rank rule answers otherwise than before a line
 -- differs, or an event is too large. No line is bad, none is of an event that can't be done, and no other limit is passed.
 abbrev pub EndsLeft : (allows : RankFacts → ℕ → Type 0) → Header → (past : History) → (text : List ℕ) → (before after : Option (List ℕ)) → LiveEnd → Type 0
-EndsLeft allows header past text before after (ends.WriteFault whichs.Journal) = UnwrittenAgain header past text before after
+EndsLeft allows header past text before after (ends.WriteFault whichs.Journal) = UnwrittenAgain allows header past text before after
 EndsLeft allows header past text before after (ends.ReadFault whichs.Journal) = after ≡ before
 EndsLeft allows header past text before after (ends.Differs number kept made) =
     (after ≡ before) × DiffersAgain allows header past (whole_lines text) number kept made
@@ -125,8 +128,32 @@ pub record LeftJournalsReopen (allows : RankFacts → ℕ → Type 0) : Type 0 w
   pub world :
       (header : Header) (past : History) (text : List ℕ) (left' : Option (List ℕ)) (ends_then ends_now : ℕ) (before after : Option (List ℕ))
       (world : WorldState) → IsLeftOf header past text → Reopens allows header (Some text) left' ends_then ends_now before after world
-      → ReopensAgain header past text before after world
+      → ReopensAgain allows header past text before after world
   pub end :
       (header : Header) (past : History) (text : List ℕ) (left' : Option (List ℕ)) (ends_then ends_now : ℕ) (before after : Option (List ℕ))
       (end : LiveEnd) → IsLeftOf header past text → EndsReopening allows header (Some text) left' ends_then ends_now before after end
       → EndsLeft allows header past text before after end
+
+-- a rank rule that has one answer for each of the facts
+pub record HasOneAnswer (allows : RankFacts → ℕ → Type 0) : Type 0 where
+  pub one : (facts : RankFacts) (x y : ℕ) → allows facts x → allows facts y → x ≡ y
+
+-- reading or writing failed, or memory was wanting
+abbrev pub IsOutside : LiveEnd → Type 0
+IsOutside (ends.WriteFault whichs.Journal) = Unit {0}
+IsOutside (ends.ReadFault whichs.Journal) = Unit {0}
+IsOutside ends.Memory = Unit {0}
+IsOutside end = ⊥
+
+-- Where the rank rule has one answer for each of the facts, and gave those of the old events, the world stands for the old entries
+-- themselves, so the lines made now are the old ones; and no other end is left.
+pub record OneRuleReopens (allows : RankFacts → ℕ → Type 0) : Type 0 where
+  pub world :
+      (header : Header) (past : History) (text : List ℕ) (before after : Option (List ℕ)) (world : WorldState) → HasOneAnswer allows
+      → IsPlayed allows header past → (r : ReopensAgain allows header past text before after world) → r.place.past ≡ r.again.whole
+  pub unwritten :
+      (header : Header) (past : History) (text : List ℕ) (before after : Option (List ℕ)) → HasOneAnswer allows
+      → IsPlayed allows header past → (r : UnwrittenAgain allows header past text before after) → r.place.past ≡ r.again.whole
+  pub end :
+      (header : Header) (past : History) (text : List ℕ) (before after : Option (List ℕ)) (end : LiveEnd) → HasOneAnswer allows
+      → IsPlayed allows header past → EndsLeft allows header past text before after end → IsOutside end

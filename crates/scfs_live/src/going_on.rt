@@ -2,7 +2,7 @@
 
 ghost use Rattle.scfs_live.specs.GoingOn.{WalkedAreDone, WalkedAreKept};
 ghost use Rattle.scfs_live.specs.Leaving.{StopsLeaveJournals};
-ghost use Rattle.scfs_live.specs.RunAgain.{LeftJournalsReopen};
+ghost use Rattle.scfs_live.specs.RunAgain.{LeftJournalsReopen, OneRuleReopens};
 ghost use Rattle.scfs_live.specs.Stopped.{DrivenAreDone, StoppedCallsLeave};
 
 use scfs_policy::{RankFacts, RankRule};
@@ -12,6 +12,12 @@ use scfs_policy::{RankFacts, RankRule};
 /// and then a line differs or an event is too large. No line is bad, and no other limit is passed.
 pub fn left_journals_reopen<R: Fn(RankFacts) -> u64>(rank: &RankRule<R>)
     ensures { LeftJournalsReopen (R.post rank.now) }
+{}
+
+/// Where the rank rule has one answer for each of the facts, and gave those of the old events, it stands for the old entries themselves, no
+/// line differs and no event is too large.
+pub fn one_rule_reopens<R: Fn(RankFacts) -> u64>(rank: &RankRule<R>)
+    ensures { OneRuleReopens (R.post rank.now) }
 {}
 
 /// Whatever front of what was to be written a stop leaves behind an old journal, it is left of the journal with the new events.

@@ -1,4 +1,3 @@
-use Rattle.scfs_live.proofs.RankedLemmas.{effect_asks}
 use Rattle.scfs_live.proofs.DrivenDoneLemmas as lemmas
 use Rattle.scfs_live.proofs.going_on.driven_events_are_done.Goals as goal
 
