@@ -6,7 +6,6 @@ use Rattle.scfs_base.specs.Limits.{events_limit}
 use Rattle.scfs_base.specs.declared.cloud.CloudAnswer.{CloudAnswer}
 use Rattle.scfs_policy.specs.declared.rank.RankFacts.{RankFacts}
 use Rattle.scfs_schedule.specs.Grammar.{IsEvent, IsHeader}
-use Rattle.scfs_schedule.specs.Written.{IsInRange}
 use Rattle.scfs_schedule.specs.declared.types.Event.{Event}
 use Rattle.scfs_schedule.specs.declared.types.Event.TheVariants as events
 use Rattle.scfs_schedule.specs.declared.types.Header.{Header}
@@ -19,7 +18,7 @@ use Rattle.scfs_world.specs.Built.{is_built}
 use Rattle.scfs_live.specs.Driven.{IsDriven, Live, answer_in, event_in, first_live, live_after, live_in, next, next_by, next_of_script, or_script}
 use Rattle.scfs_live.specs.Driving.{Driver, begun, event_of, next_settled, next_turn, next_within, next_work, or_anew, or_given, or_settled, round, with_work}
 use Rattle.scfs_live.specs.GoingOn.{AreDone}
-use Rattle.scfs_live.specs.Stopped.{DrivenAreDone, IsGiven, SaysBytes}
+use Rattle.scfs_live.specs.Stopped.{DrivenAreDone, IsGiven, IsReadAgain, SaysBytes}
 use Rattle.scfs_live.specs.Waits.{Waits, answer_waits, call_waits, reply_waits, request_waits, step_waits, waits_after}
 use Rattle.scfs_live.specs.declared.driver.Next.{Next}
 use Rattle.scfs_live.specs.declared.driver.Next.TheVariants.{Does, Hears}
@@ -159,9 +158,9 @@ module _ (P : Event → Type 0) (space : (a : ℕ) → P (events.Space a)) (told
       let one = one_event s (new ++ old) (answer_in e.event) e.event (live_after s script new old) before.1 driven.0 in
       ((one.0, before.0), one.1)
 
--- an event can be done, and is in range where it is of the header and says bytes
+-- an event can be done, and is read again from its line where it is of the header and says bytes
 abbrev Holds : Header → Event → Type 0
-Holds header event = (is_built event ≡ true) × (IsEvent header event → SaysBytes event → IsInRange event)
+Holds header event = (is_built event ≡ true) × (IsEvent header event → SaysBytes event → IsReadAgain header event)
 
 module _ (header : Header) (is : IsHeader header) where
   agent_range : (a : ℕ) → a < length header.agents → a < 2 ^ 64
@@ -170,22 +169,25 @@ module _ (header : Header) (is : IsHeader header) where
   cloud_range : (c : ℕ) → c < 3 * header.f + 1 → c < 2 ^ 64
   cloud_range c there = omega (arith, there, is.f.1)
 
-  given_holds : (script : List Event) → Each IsGiven script → Each (Holds header) script
+  given_holds : (script : List Event) → Each (IsGiven header) script → Each (Holds header) script
   given_holds [] each = tt
-  given_holds (event ∷ script) each = ((each.0.built, λ of bytes. each.0.range), given_holds script each.1)
+  given_holds (event ∷ script) each = ((each.0.built, λ of bytes. each.0.again), given_holds script each.1)
 
-  pub driven_holds : (script : List Event) (new old : History) → Each IsGiven script → IsDriven (under header) script new old
+  pub driven_holds : (script : List Event) (new old : History) → Each (IsGiven header) script → IsDriven (under header) script new old
       → Each (λ (e : Entry). Holds header e.event) new
   driven_holds script new old each driven =
-      (driven_so (Holds header) (λ a. (refl, λ of bytes. agent_range a of)) (λ a. (refl, λ of bytes. agent_range a of))
-      (λ c. (refl, λ of bytes. cloud_range c of)) (λ a. (refl, λ of bytes. agent_range a of))
-      (λ c answer. (refl, λ of bytes. (cloud_range c of.0, bytes))) (under header) script new old (given_holds script each) driven).0
+      (driven_so (Holds header) (λ a. (refl, λ of bytes. event_read header (events.Space a) of (agent_range a of)))
+      (λ a. (refl, λ of bytes. event_read header (events.Told a) of (agent_range a of)))
+      (λ c. (refl, λ of bytes. event_read header (events.Give c) of (cloud_range c of)))
+      (λ a. (refl, λ of bytes. event_read header (events.Turn a) of (agent_range a of)))
+      (λ c answer. (refl, λ of bytes. event_read header (events.Say c answer) of (cloud_range c of.0, bytes)))
+      (under header) script new old (given_holds script each) driven).0
 
-  holding_are_done : (new old : History) → Each (λ (e : Entry). Holds header e.event) new → Each (λ (e : Entry). SaysBytes e.event) new
+  pub holding_are_done : (new old : History) → Each (λ (e : Entry). Holds header e.event) new → Each (λ (e : Entry). SaysBytes e.event) new
       → AreEvents header (new ++ old) → length (new ++ old) ≤ events_limit → AreDone header old → AreDone header (new ++ old)
   holding_are_done [] old each bytes are few done = done
   holding_are_done (e ∷ new) old each bytes are few done = (
-    event_read header e.event are.0 (each.0.1 are.0 bytes.0),
+    each.0.1 are.0 bytes.0,
     each.0.0,
     omega (arith, few),
     holding_are_done new old each.1 bytes.1 are.2 (omega (arith, few)) done,

@@ -3,7 +3,7 @@
 ghost use Rattle.scfs_live.specs.GoingOn.{WalkedAreDone, WalkedAreKept};
 ghost use Rattle.scfs_live.specs.Leaving.{StopsLeaveJournals};
 ghost use Rattle.scfs_live.specs.RunAgain.{LeftJournalsReopen, OneRuleReopens};
-ghost use Rattle.scfs_live.specs.Stopped.{DrivenAreDone, StoppedCallsLeave};
+ghost use Rattle.scfs_live.specs.Stopped.{DrivenAreDone, ScriptsAreReadAgain, StoppedCallsLeave};
 
 use scfs_policy::{RankFacts, RankRule};
 
@@ -34,6 +34,11 @@ pub fn walked_events_are_done()
 /// behind them.
 pub fn walked_lines_are_kept()
     ensures { WalkedAreKept }
+{}
+
+/// So are the events of a script, whatever its text is.
+pub fn script_events_are_read_again()
+    ensures { ScriptsAreReadAgain }
 {}
 
 /// So are the events that the run of a script makes.
