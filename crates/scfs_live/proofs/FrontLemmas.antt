@@ -1,5 +1,5 @@
 -- A front of a text that keeps the limits keeps them as well.
-use Rattle.std.proofs.Common.{◌≡◌, ◌≤◌, ℕ, ◌+◌, List, [], ◌∷◌, ◌++◌, refl, ap, ◌∙◌, sym, Bool, true, false, cond, eqb, ltb, Option, Some, None, length, length-append, take, arith}
+use Rattle.std.proofs.Common.{◌≡◌, ◌≤◌, ℕ, ◌+◌, List, [], ◌∷◌, ◌++◌, refl, ap, ◌∙◌, sym, subst, Bool, true, false, cond, eqb, ltb, Option, Some, None, length, length-append, take, arith}
 use Rattle.std.proofs.lemmas.Bool.{le-ltb, ltb-false}
 use Rattle.std.proofs.lemmas.List.{take_all}
 use Rattle.scfs_base.specs.Limits.{line_limit}
@@ -8,10 +8,11 @@ use Rattle.scfs_schedule.specs.declared.types.Which.{Which}
 use Rattle.scfs_schedule.specs.declared.types.Which.TheVariants as whichs
 use Rattle.scfs_schedule.specs.Reading.{is_too_long}
 use Rattle.scfs_schedule.specs.Splitting.{Split, no_lines, split, split_lines, with_line}
-use Rattle.scfs_live.proofs.SplitLemmas.{within_limit}
+use Rattle.scfs_live.specs.Keeping.{all_but_last}
+use Rattle.scfs_live.proofs.SplitLemmas.{split_whole, within_limit}
 
 -- none of these is longer than a line may be
-abbrev AreShort : List (List ℕ) → Type 0
+abbrev pub AreShort : List (List ℕ) → Type 0
 AreShort [] = Unit {0}
 AreShort (p ∷ ps) = (is_too_long p ≡ false) × AreShort ps
 
@@ -87,3 +88,17 @@ front_passes limit which front back none =
     ap (λ t. (split_lines t which (pieces 10 (take limit front))).passed) (le-ltb limit (length front) few)
     ∙ ap (λ t. (split_lines false which (pieces 10 t)).passed) (take_all limit front few)
     ∙ passes_none which (pieces 10 front) (short_below (pieces 10 front) (pieces 10 text) (below_pieces front back) short)
+
+-- no whole line of a text that passes no limit is longer than a line may be
+all_short : (ps : List (List ℕ)) → AreShort ps → AreShort (all_but_last ps)
+all_short [] short = tt
+all_short (last ∷ []) short = tt
+all_short (line ∷ next ∷ rest) short = (short.0, all_short (next ∷ rest) short.1)
+
+pub are_short_whole : (limit : ℕ) (which : Which) (text : List ℕ) → (split limit which text).passed ≡ None → AreShort (split limit which text).lines
+are_short_whole limit which text none =
+    let within = within_limit limit which text none in
+    let pieces_short = are_short (ltb limit (length text)) which (pieces 10 (take limit text)) none in
+    let whole : all_but_last (pieces 10 (take limit text)) ≡ (split limit which text).lines =
+    ap (λ t. all_but_last (pieces 10 t)) (take_all limit text within) ∙ sym (split_whole limit which text none) in
+    subst AreShort whole (all_short (pieces 10 (take limit text)) pieces_short)

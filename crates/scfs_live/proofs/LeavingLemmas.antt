@@ -25,7 +25,7 @@ alone [] h = refl
 alone (b ∷ w) h = ap (λ t. cond t ([] ∷ pieces 10 w) (onto b (pieces 10 w))) (ne_eqb b 10 h.0) ∙ ap (onto b) (alone w h.1)
 
 -- it goes before the first piece of what is behind it
-before : (w rest : List ℕ) → HoldsNoEnd w → pieces 10 (w ++ 10 ∷ rest) ≡ w ∷ pieces 10 rest
+pub before : (w rest : List ℕ) → HoldsNoEnd w → pieces 10 (w ++ 10 ∷ rest) ≡ w ∷ pieces 10 rest
 before [] rest h = refl
 before (b ∷ w) rest h =
     ap (λ t. cond t ([] ∷ pieces 10 (w ++ 10 ∷ rest)) (onto b (pieces 10 (w ++ 10 ∷ rest)))) (ne_eqb b 10 h.0) ∙ ap (onto b) (before w rest h.1)
@@ -299,13 +299,15 @@ unfolding HoldNoEnds
 hold_no_ends [] h = tt
 hold_no_ends (line ∷ lines) h = (h.0, hold_no_ends lines h.2)
 
-header_plain : (header : Header) → ArePlain (whole_lines (header_text header))
-header_plain header =
+-- those of a header
+pub header_whole : (header : Header) → whole_lines (header_text header) ≡ header_rows header
+header_whole header =
     let rows = header_rows header in
-    let plain = are_plain_rows header in
-    let is : whole_lines (header_text header) ≡ rows =
-    ap whole_lines (rows_text header ∙ sym (append-nil (flat_map ended rows))) ∙ whole_lines-append rows [] (hold_no_ends rows plain) ∙ append-nil rows in
-    subst ArePlain (sym is) plain
+    ap whole_lines (rows_text header ∙ sym (append-nil (flat_map ended rows))) ∙ whole_lines-append rows [] (hold_no_ends rows (are_plain_rows header))
+    ∙ append-nil rows
+
+header_plain : (header : Header) → ArePlain (whole_lines (header_text header))
+header_plain header = subst ArePlain (sym (header_whole header)) (are_plain_rows header)
 
 journal_plain : (header : Header) (past : History) → ArePlain (journal_lines header past)
 journal_plain header [] = header_plain header

@@ -29,6 +29,7 @@ pub mod RoundLemmas
 pub mod RowDriven
 pub mod RowReopened
 pub mod RunAgainLemmas
+pub mod ScheduledLemmas
 pub mod ScriptLemmas
 pub mod SplitLemmas
 pub mod StoppedLemmas

@@ -17,6 +17,7 @@ pub mod Reopened
 pub mod Reopening
 pub mod Rereading
 pub mod RunAgain
+pub mod Scheduled
 pub mod Stopped
 pub mod Taking
 pub mod TooLarge

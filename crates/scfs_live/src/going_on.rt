@@ -3,6 +3,7 @@
 ghost use Rattle.scfs_live.specs.GoingOn.{WalkedAreDone, WalkedAreKept};
 ghost use Rattle.scfs_live.specs.Leaving.{StopsLeaveJournals};
 ghost use Rattle.scfs_live.specs.RunAgain.{LeftJournalsReopen, OneRuleReopens};
+ghost use Rattle.scfs_live.specs.Scheduled.{JournalsAreSchedules};
 ghost use Rattle.scfs_live.specs.Stopped.{DrivenAreDone, ScriptsAreReadAgain, StoppedCallsLeave};
 
 use scfs_policy::{RankFacts, RankRule};
@@ -50,4 +51,10 @@ pub fn driven_events_are_done<R: Fn(RankFacts) -> u64>(rank: &RankRule<R>)
 /// of its events: what reopening answers over it is said above.
 pub fn stopped_calls_leave<R: Fn(RankFacts) -> u64>(rank: &RankRule<R>)
     ensures { StoppedCallsLeave (R.post rank.now) }
+{}
+
+/// The lines of an old journal that neither begin with a space nor end with `~`, and a line `end` behind them, are read as a schedule of
+/// its header and its events, within the limit of an input.
+pub fn journals_are_schedules()
+    ensures { JournalsAreSchedules }
 {}
