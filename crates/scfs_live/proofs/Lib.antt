@@ -28,6 +28,7 @@ pub mod RankedLemmas
 pub mod RoundLemmas
 pub mod RowDriven
 pub mod RowReopened
+pub mod RowScheduled
 pub mod RunAgainLemmas
 pub mod ScheduledLemmas
 pub mod ScriptLemmas

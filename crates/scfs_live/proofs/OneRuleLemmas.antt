@@ -1,5 +1,5 @@
 -- A rank rule that has one answer for each of the facts makes one history of the same events.
-use Rattle.std.proofs.Common.{◌≡◌, ◌<◌, ◌≤◌, ℕ, List, [], ◌∷◌, ◌++◌, refl, ap, ◌∙◌, sym, subst, Option, arith}
+use Rattle.std.proofs.Common.{◌≡◌, ℕ, List, [], ◌∷◌, ◌++◌, refl, ap, ◌∙◌, sym, subst, Option, append-nil}
 use Rattle.scfs_base.specs.Limits.{carried_limit}
 use Rattle.scfs_policy.specs.declared.rank.RankFacts.{RankFacts}
 use Rattle.scfs_schedule.specs.declared.types.Event.{Event}
@@ -7,7 +7,7 @@ use Rattle.scfs_schedule.specs.declared.types.Header.{Header}
 use Rattle.scfs_schedule.specs.declared.types.Which.TheVariants as whichs
 use Rattle.scfs_model.specs.Clouds.{IsServed, message_of, net}
 use Rattle.scfs_model.specs.Format.{Setup}
-use Rattle.scfs_model.specs.History.{Entry, History, Message}
+use Rattle.scfs_model.specs.History.{Entry, History, Message, events_then}
 use Rattle.scfs_model.specs.Layers.{rows}
 use Rattle.scfs_model.specs.Runs.{Answers, Happens, IsRanked, actual, effect_after}
 use Rattle.scfs_model.specs.States.{effect}
@@ -116,8 +116,28 @@ module _ (allows : RankFacts → ℕ → Type 0) (is_one : HasOneAnswer allows) 
     outside (ends.TooLarge whichs.Objects) e = never_too_large (whole_lines text) e.1
     outside end e = e
 
+-- events in order, and the newest first
+
+abbrev back : List Event → List Event → List Event
+back [] rest = rest
+back (event ∷ events) rest = back events (event ∷ rest)
+
+back_then : (past : History) (events rest : List Event) → back (events_then past events) rest ≡ back events (events_of past ++ rest)
+back_then [] events rest = refl
+back_then (e ∷ past) events rest = back_then past (e.event ∷ events) rest
+
+same_events : (past past' : History) → events_then past [] ≡ events_then past' [] → events_of past ≡ events_of past'
+same_events past past' same =
+    sym (append-nil (events_of past)) ∙ sym (back_then past [] []) ∙ ap (λ (x : List Event). back x []) same ∙ back_then past' [] [] ∙ append-nil (events_of past')
+
+one_history : (allows : RankFacts → ℕ → Type 0) (header : Header) (past past' : History) → HasOneAnswer allows → IsPlayed allows header past
+    → IsPlayed allows header past' → events_then past [] ≡ events_then past' [] → past ≡ past'
+one_history allows header past past' is_one plays plays' same =
+    first_entries allows is_one header past' plays' past past' [] refl plays (same_events past past' same)
+
 pub one_rule_reopens : (allows : RankFacts → ℕ → Type 0) → OneRuleReopens allows
 one_rule_reopens allows = record {
+  history = λ header past past' is_one plays plays' same. one_history allows header past past' is_one plays plays' same;
   world = λ header past text before after world is_one plays r. same_place allows is_one header past plays (whole_lines text) r.place r.again r.plays;
   unwritten = λ header past text before after is_one plays r. same_place allows is_one header past plays (whole_lines text) r.place r.again r.plays;
   end = λ header past text before after end is_one plays e. outside allows is_one header past plays text before after end e;

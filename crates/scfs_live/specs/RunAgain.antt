@@ -9,7 +9,7 @@ use Rattle.scfs_schedule.specs.declared.types.Event.{Event}
 use Rattle.scfs_schedule.specs.declared.types.Header.{Header}
 use Rattle.scfs_schedule.specs.declared.types.Which.TheVariants as whichs
 use Rattle.scfs_model.specs.Clouds.{net}
-use Rattle.scfs_model.specs.History.{Entry, History}
+use Rattle.scfs_model.specs.History.{Entry, History, events_then}
 use Rattle.scfs_model.specs.Layers.{rows}
 use Rattle.scfs_model.specs.Runs.{Answers, effect_after}
 use Rattle.scfs_model.specs.UnitFormat.{under}
@@ -145,9 +145,12 @@ IsOutside (ends.ReadFault whichs.Journal) = Unit {0}
 IsOutside ends.Memory = Unit {0}
 IsOutside end = ⊥
 
--- Where the rank rule has one answer for each of the facts, and gave those of the old events, the world stands for the old entries
--- themselves, so the lines made now are the old ones; and no other end is left.
+-- Where the rank rule has one answer for each of the facts, two histories of the same events are one. So where it gave the answers of the old
+-- events too, the world stands for the old entries themselves, the lines made now are the old ones, and no other end is left.
 pub record OneRuleReopens (allows : RankFacts → ℕ → Type 0) : Type 0 where
+  pub history :
+      (header : Header) (past past' : History) → HasOneAnswer allows → IsPlayed allows header past → IsPlayed allows header past'
+      → events_then past [] ≡ events_then past' [] → past ≡ past'
   pub world :
       (header : Header) (past : History) (text : List ℕ) (before after : Option (List ℕ)) (world : WorldState) → HasOneAnswer allows
       → IsPlayed allows header past → (r : ReopensAgain allows header past text before after world) → r.place.past ≡ r.again.whole

@@ -15,8 +15,8 @@ pub fn left_journals_reopen<R: Fn(RankFacts) -> u64>(rank: &RankRule<R>)
     ensures { LeftJournalsReopen (R.post rank.now) }
 {}
 
-/// Where the rank rule has one answer for each of the facts, and gave those of the old events, it stands for the old entries themselves, no
-/// line differs and no event is too large.
+/// Where the rank rule has one answer for each of the facts, two histories of the same events are one. So where it gave the answers of the
+/// old events too, reopening answers a world that stands for the old entries themselves, no line differs and no event is too large.
 pub fn one_rule_reopens<R: Fn(RankFacts) -> u64>(rank: &RankRule<R>)
     ensures { OneRuleReopens (R.post rank.now) }
 {}
