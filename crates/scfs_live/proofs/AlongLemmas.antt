@@ -1,18 +1,16 @@
 -- Lines of what is left, run again, keep beside the old history.
-use Rattle.std.proofs.Common.{◌≡◌, ◌<◌, ℕ, ◌+◌, List, [], ◌∷◌, ◌++◌, refl, ap, ◌∙◌, sym, subst, Bool, true, false, cond, Ok, length, map, append_assoc, append-nil}
-use Rattle.scfs_base.specs.Limits.{events_limit}
+use Rattle.std.proofs.Common.{◌≡◌, ℕ, ◌+◌, List, [], ◌∷◌, ◌++◌, refl, ap, ◌∙◌, sym, subst, Bool, true, false, cond, length, map, append_assoc, append-nil}
 use Rattle.scfs_schedule.specs.declared.types.Event.{Event}
 use Rattle.scfs_schedule.specs.declared.types.Header.{Header}
 use Rattle.scfs_schedule.specs.Text.{event_text, header_text}
 use Rattle.scfs_model.specs.History.{Entry, History}
-use Rattle.scfs_world.specs.Built.{is_built}
 use Rattle.scfs_live.specs.declared.finding.Found.{Found}
 use Rattle.scfs_live.specs.declared.finding.Found.TheVariants as founds
 use Rattle.scfs_live.specs.Finding.{found, is_left_out}
 use Rattle.scfs_live.specs.GoingOn.{AreDone, event_lines, journal_lines, kept_lines}
 use Rattle.scfs_live.specs.Keeping.{made_line, whole_lines}
-use Rattle.scfs_live.specs.Reopening.{Follows, Walk, Walks, unwalked, with_event}
-use Rattle.scfs_live.specs.RunAgain.{HasLast, events_of}
+use Rattle.scfs_live.specs.Reopening.{Follows, Walk, Walks, unwalked}
+use Rattle.scfs_live.specs.RunAgain.{events_of}
 use Rattle.scfs_live.proofs.BesideLemmas.{Does_next, Keeps_header, Keeps_line, Other, Seen, Spot, coming, seen}
 use Rattle.scfs_live.proofs.FoundLemmas.{found_left_out}
 use Rattle.scfs_live.proofs.GoingOnLemmas.{AreNext, are_next, at, in_order, journal-onto, next_lines, onto, onto-in_order, spaced, spaced-map}

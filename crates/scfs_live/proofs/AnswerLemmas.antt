@@ -1,5 +1,5 @@
 -- What running again answers over what is left of a journal: lines that were run again, and the line at which that ends.
-use Rattle.std.proofs.Common.{◌≡◌, ◌≢◌, ◌<◌, ◌≤◌, ℕ, ◌+◌, List, [], ◌∷◌, ◌++◌, refl, ap, ◌∙◌, sym, subst, Bool, true, false, cond, Option, length, map, append_assoc, arith}
+use Rattle.std.proofs.Common.{◌≡◌, ◌≢◌, ◌<◌, ◌≤◌, ℕ, ◌+◌, List, [], ◌∷◌, ◌++◌, refl, ap, ◌∙◌, sym, subst, Bool, true, false, cond, Option, length, append_assoc, arith}
 use Rattle.std.proofs.lemmas.List.{append_cancel_left}
 use Rattle.scfs_base.specs.Limits.{carried_limit, events_limit}
 use Rattle.scfs_policy.specs.declared.rank.RankFacts.{RankFacts}
@@ -19,10 +19,10 @@ use Rattle.scfs_live.specs.declared.ending.LiveEnd.TheVariants as ends
 use Rattle.scfs_live.specs.declared.finding.Found.{Found}
 use Rattle.scfs_live.specs.declared.finding.Found.TheVariants as founds
 use Rattle.scfs_live.specs.Finding.{found, is_left_out}
-use Rattle.scfs_live.specs.GoingOn.{AreDone, awaited_lines, journal_lines, kept_lines}
+use Rattle.scfs_live.specs.GoingOn.{AreDone, journal_lines, kept_lines}
 use Rattle.scfs_live.specs.Keeping.{whole_lines}
-use Rattle.scfs_live.specs.Reopening.{EndsAt, RunsAgain, Walk, Walks, unwalked}
-use Rattle.scfs_live.specs.RunAgain.{DiffersAgain, EndsLeft, GoesAgain, GoesUpTo, TooLargeAgain, any_answer, events_of, ranks_of}
+use Rattle.scfs_live.specs.Reopening.{EndsAt, Walk, Walks, unwalked}
+use Rattle.scfs_live.specs.RunAgain.{DiffersAgain, EndsLeft, GoesAgain, TooLargeAgain, any_answer, events_of, ranks_of}
 use Rattle.scfs_live.specs.TooLarge.{IsTooLargeNext, entry_after}
 use Rattle.scfs_live.proofs.AlongLemmas.{Stood, seen_at, stood}
 use Rattle.scfs_live.proofs.BesideLemmas.{Does_next, Keeps_header, Keeps_line, Other, Seen}

@@ -1,21 +1,17 @@
 -- Running again beside the history whose journal was left.
-use Rattle.std.proofs.Common.{◌≡◌, ◌≢◌, ◌<◌, ℕ, ◌+◌, List, [], ◌∷◌, ◌++◌, refl, ap, ◌∙◌, sym, subst, Bool, true, false, cond, Some, Ok, length, map, append_assoc, append-nil}
+use Rattle.std.proofs.Common.{◌≡◌, ◌≢◌, ℕ, ◌+◌, List, [], ◌∷◌, ◌++◌, refl, ap, ◌∙◌, sym, subst, Bool, true, false, cond, Ok, length, map, append_assoc, append-nil}
 use Rattle.std.specs.Str.{bytes_eq}
-use Rattle.scfs_base.specs.Limits.{events_limit}
-use Rattle.scfs_schedule.specs.declared.types.Event.{Event}
 use Rattle.scfs_schedule.specs.declared.types.Header.{Header}
 use Rattle.scfs_schedule.specs.Text.{event_text}
 use Rattle.scfs_model.specs.History.{Entry, History}
-use Rattle.scfs_world.specs.Built.{is_built}
-use Rattle.scfs_live.specs.declared.finding.Found.{Found}
 use Rattle.scfs_live.specs.declared.finding.Found.TheVariants as founds
-use Rattle.scfs_live.specs.Finding.{compared, event_read, found, is_left_out, no_line}
-use Rattle.scfs_live.specs.GoingOn.{event_lines, journal_lines, kept_lines}
+use Rattle.scfs_live.specs.Finding.{event_read, found, is_left_out, no_line}
+use Rattle.scfs_live.specs.GoingOn.{journal_lines}
 use Rattle.scfs_live.specs.Keeping.{made_line}
-use Rattle.scfs_live.specs.Reopening.{Follows, Walk, Walks, with_event}
+use Rattle.scfs_live.specs.Reopening.{Follows, Walk}
 use Rattle.scfs_live.specs.RunAgain.{HasLast, events_of}
-use Rattle.scfs_live.proofs.FoundLemmas.{bytes_eq-equal, found_beyond, found_early, found_event, found_header_line, found_left_out, found_line}
-use Rattle.scfs_live.proofs.GoingOnLemmas.{AreNext, at, next_lines, onto, spaced, spaced-map}
+use Rattle.scfs_live.proofs.FoundLemmas.{bytes_eq-equal, found_beyond, found_early, found_event, found_header_line, found_line}
+use Rattle.scfs_live.proofs.GoingOnLemmas.{AreNext, at, next_lines, spaced}
 
 -- The events so far are these old ones; of their journal so many lines were kept, and behind the header's lines these lines are to come.
 pub record Spot (header : Header) (past : History) (first : List (List ℕ)) (old : History) (kept waiting : List (List ℕ)) (next : List Entry) : Type 0 where

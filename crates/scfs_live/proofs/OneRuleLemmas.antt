@@ -1,6 +1,5 @@
 -- A rank rule that has one answer for each of the facts makes one history of the same events.
 use Rattle.std.proofs.Common.{◌≡◌, ℕ, List, [], ◌∷◌, ◌++◌, refl, ap, ◌∙◌, sym, subst, Option, append-nil}
-use Rattle.scfs_base.specs.Limits.{carried_limit}
 use Rattle.scfs_policy.specs.declared.rank.RankFacts.{RankFacts}
 use Rattle.scfs_schedule.specs.declared.types.Event.{Event}
 use Rattle.scfs_schedule.specs.declared.types.Header.{Header}

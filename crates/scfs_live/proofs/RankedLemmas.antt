@@ -1,5 +1,5 @@
 -- What the rank rule is asked in an event does not rest on what it answers there.
-use Rattle.std.proofs.Common.{◌≡◌, ℕ, List, [], ◌∷◌, ◌++◌, refl, ap, ◌∙◌, sym, subst, Bool, true, false, not, cond, Option, Some, None, Ok, Err}
+use Rattle.std.proofs.Common.{◌≡◌, ℕ, List, [], ◌∷◌, ◌++◌, refl, ap, ◌∙◌, sym, Bool, true, false, not, cond, Option, Some, None, Ok, Err}
 use Rattle.std.specs.Prelude.{slice_get}
 use Rattle.scfs_base.specs.declared.naming.RequestNo.{RequestNo}
 use Rattle.scfs_policy.specs.declared.rank.RankFacts.{RankFacts}
@@ -7,7 +7,7 @@ use Rattle.scfs_schedule.specs.declared.types.Event.{Event}
 use Rattle.scfs_schedule.specs.declared.types.Line.{Line}
 use Rattle.scfs_schedule.specs.declared.types.Line.TheVariants as lines
 use Rattle.scfs_model.specs.Agents.{Agent, Calls, Closed, Crashes, Hears, Input, Reaction, Starts, Tells, Turns, Upload, silent}
-use Rattle.scfs_model.specs.Events.{Agent_has, Answer_given, At_agent, At_cloud, At_space, Call_comes, Clock_has, Cloud_has, Crash_comes, Message_moved, Place, Reply_told, Request_answered, Space_has, Start_comes, Step_postponed, Step_served, Turn_comes, place_of}
+use Rattle.scfs_model.specs.Events.{Agent_has, Answer_given, At_agent, At_space, Call_comes, Clock_has, Cloud_has, Crash_comes, Message_moved, Place, Reply_told, Request_answered, Space_has, Start_comes, Step_postponed, Step_served, Turn_comes, place_of}
 use Rattle.scfs_model.specs.Format.{Setup}
 use Rattle.scfs_model.specs.Given.{Given}
 use Rattle.scfs_model.specs.History.{Message, Of_answer, Of_request}
@@ -17,7 +17,7 @@ use Rattle.scfs_model.specs.Lives.{is_up}
 use Rattle.scfs_model.specs.Opens.{As_empty, Found, On_clouds, found, saw, sighted}
 use Rattle.scfs_model.specs.Reactions.{begun, next_begun, reacted, responded}
 use Rattle.scfs_model.specs.SessionSteps.{Commit, Completes, Locks, Open_read, Open_write, Sees, Session_outcome, Session_step, Sight}
-use Rattle.scfs_model.specs.States.{Effect, Reply, Seat, State, at_agent, at_cloud, at_place, at_seat, at_space, comes, comes_back, comes_if, effect, gives, is_there, leaving, skips, sum_of, with_seat}
+use Rattle.scfs_model.specs.States.{Effect, Reply, Seat, State, at_agent, at_place, at_space, comes, comes_back, comes_if, effect, gives, is_there, leaving, skips, sum_of, with_seat}
 use Rattle.scfs_model.specs.Steps.{Of_locks, Of_names, Of_sessions, Outcome}
 use Rattle.scfs_model.specs.States as states
 use Rattle.scfs_model.specs.Told as telling

@@ -1,5 +1,5 @@
 -- What reopening answers over what is left of a journal.
-use Rattle.std.proofs.Common.{◌≡◌, ℕ, List, [], ◌∷◌, ◌++◌, refl, ap, ◌∙◌, sym, subst, Option, Some, None, append_assoc, append-nil}
+use Rattle.std.proofs.Common.{◌≡◌, ℕ, List, [], ◌∷◌, ◌++◌, ap, ◌∙◌, sym, subst, Option, Some, None, append_assoc, append-nil}
 use Rattle.std.specs.Prelude.{IfSome}
 use Rattle.scfs_base.specs.Outside.{Puts, Takes}
 use Rattle.scfs_policy.specs.declared.rank.RankFacts.{RankFacts}
@@ -12,11 +12,9 @@ use Rattle.scfs_world.specs.State.{WorldState}
 use Rattle.scfs_live.specs.declared.ending.LiveEnd.{LiveEnd}
 use Rattle.scfs_live.specs.declared.ending.LiveEnd.TheVariants as ends
 use Rattle.scfs_live.specs.Edges.{GetsPart}
-use Rattle.scfs_live.specs.GoingOn.{journal_lines, kept_lines}
 use Rattle.scfs_live.specs.Keeping.{missing, whole_lines}
-use Rattle.scfs_live.specs.Leaving.{IsLeft}
 use Rattle.scfs_live.specs.Limits.{journal_limit}
-use Rattle.scfs_live.specs.Reopened.{EndsAgain, EndsReopening, ReadsAll, Reopens, RunsAll, StopsAt, Unread, Unwritten, old_lines}
+use Rattle.scfs_live.specs.Reopened.{EndsReopening, Reopens, RunsAll, StopsAt, Unread, Unwritten, old_lines}
 use Rattle.scfs_live.specs.Reopening.{Walk, Walks, unwalked}
 use Rattle.scfs_live.specs.RunAgain.{EndsLeft, GoesAgain, IsLeftOf, LeftJournalsReopen, ReopensAgain, UnwrittenAgain}
 use Rattle.scfs_live.proofs.AnswerLemmas.{ends_at, goes_again}

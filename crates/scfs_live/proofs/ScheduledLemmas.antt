@@ -1,5 +1,5 @@
 -- A journal is read as a schedule.
-use Rattle.std.proofs.Common.{◌≡◌, ◌≢◌, ◌≤◌, ℕ, ◌+◌, List, [], ◌∷◌, ◌++◌, refl, ap, ◌∙◌, sym, subst, Bool, true, false, cond, eqb, ltb, Some, None, Result, Ok, Err, length, map, take, append_assoc, append-nil}
+use Rattle.std.proofs.Common.{◌≡◌, ◌≤◌, ℕ, ◌+◌, List, [], ◌∷◌, ◌++◌, refl, ap, ◌∙◌, sym, subst, Bool, true, false, cond, eqb, Some, None, Result, Ok, Err, length, map, take, append_assoc, append-nil}
 use Rattle.std.proofs.lemmas.Bool.{eqb-true, le-ltb, ltb-false}
 use Rattle.std.proofs.lemmas.Grind.{flat_map-append}
 use Rattle.std.proofs.lemmas.List.{take_all}
@@ -9,8 +9,8 @@ use Rattle.std.specs.List.{flat_map}
 use Rattle.std.specs.Str.{bytes_eq}
 use Rattle.scfs_base.specs.Limits.{input_limit, line_limit}
 use Rattle.scfs_base.specs.Pieces.{pieces}
-use Rattle.scfs_schedule.specs.Grammar.{IsHeader, end_said, event_named, event_of, event_said, said_by, said_of, words_of}
-use Rattle.scfs_schedule.specs.Reading.{after, is_too_long, read, read_lines, stopped, with_event, with_header}
+use Rattle.scfs_schedule.specs.Grammar.{IsHeader, end_said, event_named, event_of, event_said, said_by, words_of}
+use Rattle.scfs_schedule.specs.Reading.{after, is_too_long, read, read_lines, with_event, with_header}
 use Rattle.scfs_schedule.specs.Text.{event_line, event_text, header_text}
 use Rattle.scfs_schedule.specs.Written.{AreAgents, schedule_text}
 use Rattle.scfs_schedule.specs.declared.types.BadKind.{BadKind}
@@ -25,10 +25,10 @@ use Rattle.scfs_schedule.specs.declared.types.Said.TheVariants as saids
 use Rattle.scfs_schedule.specs.declared.types.Which.TheVariants as whichs
 use Rattle.scfs_schedule.proofs.ReadingLemmas.{line_first}
 use Rattle.scfs_schedule.proofs.WholeLemmas.{header_next}
-use Rattle.scfs_model.specs.History.{Entry, History, events_then}
+use Rattle.scfs_model.specs.History.{History, events_then}
 use Rattle.scfs_live.specs.Finding.{event_read, is_left_out}
-use Rattle.scfs_live.specs.GoingOn.{AreDone, awaited_lines, event_lines, journal_lines, kept_lines}
-use Rattle.scfs_live.specs.Keeping.{all_but_last, ended, made_line, whole_lines}
+use Rattle.scfs_live.specs.GoingOn.{AreDone, event_lines, journal_lines, kept_lines}
+use Rattle.scfs_live.specs.Keeping.{ended, made_line}
 use Rattle.scfs_live.specs.Limits.{journal_limit}
 use Rattle.scfs_live.specs.Reopened.{old_lines}
 use Rattle.scfs_live.specs.Reopening.{Walk, Walks, unwalked}

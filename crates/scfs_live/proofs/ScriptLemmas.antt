@@ -1,13 +1,12 @@
 -- The events of a script are read again from their lines.
-use Rattle.std.proofs.Common.{◌≡◌, ℕ, ◌+◌, List, [], ◌∷◌, refl, ap, ◌∙◌, sym, subst, Bool, true, false, ◌&&◌, not, cond, Option, Some, None, Result, Ok, Err}
+use Rattle.std.proofs.Common.{◌≡◌, ℕ, ◌+◌, List, [], ◌∷◌, refl, subst, Bool, true, false, ◌&&◌, not, cond, Some, None, Result, Ok, Err}
 use Rattle.std.specs.Prelude.{codes, nat_lt, take, length}
 use Rattle.std.specs.Str.{bytes_eq}
 use Rattle.scfs_anchor.specs.Tree.{Each}
 use Rattle.scfs_base.specs.Limits.{input_limit}
 use Rattle.scfs_base.specs.Pieces.{pieces}
 use Rattle.scfs_schedule.specs.Grammar.{agent_line, agents_said, begin_said, end_said, event_named, event_of, event_said, header_number, is_script_word, said_by, said_of, words_of}
-use Rattle.scfs_schedule.specs.Reading.{Read, after, bad_line, is_too_long, long_line, read, read_lines, stopped, unfinished, with_event, with_header}
-use Rattle.scfs_schedule.specs.Text.{event_text}
+use Rattle.scfs_schedule.specs.Reading.{Read, after, bad_line, is_too_long, long_line, read, read_lines, stopped, unfinished, with_header}
 use Rattle.scfs_schedule.specs.declared.types.BadKind.{BadKind}
 use Rattle.scfs_schedule.specs.declared.types.BadKind.TheVariants as kinds
 use Rattle.scfs_schedule.specs.declared.types.Ending.{Ending}

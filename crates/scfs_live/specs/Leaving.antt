@@ -1,13 +1,12 @@
 -- What a stop leaves of a journal, whatever the byte at which it stops.
-use Rattle.std.specs.Prelude.{◌≡◌, ℕ, List, ◌++◌, None}
+use Rattle.std.specs.Prelude.{◌≡◌, ℕ, List, ◌++◌}
 use Rattle.scfs_schedule.specs.Holding.{is_unfinished}
 use Rattle.scfs_schedule.specs.declared.types.Header.{Header}
 use Rattle.scfs_model.specs.History.{History}
 use Rattle.scfs_live.specs.GoingOn.{awaited_lines, journal_lines, kept_lines}
 use Rattle.scfs_live.specs.Journal.{pieces_of}
 use Rattle.scfs_live.specs.Keeping.{missing, whole_lines}
-use Rattle.scfs_live.specs.Reopened.{old_lines}
-use Rattle.scfs_live.specs.Reopening.{Walk, Walks, unwalked}
+use Rattle.scfs_live.specs.Reopening.{Walk}
 
 -- what is left of the journal of a history: the whole lines that are not left out are the first of its lines
 abbrev pub IsLeft : Header → History → (text : List ℕ) → Type 0

@@ -1,5 +1,5 @@
 -- What a call leaves that ran an old journal again, drove a script and was stopped.
-use Rattle.std.specs.Prelude.{◌≡◌, ◌≤◌, ℕ, List, [], ◌∷◌, ◌++◌, length, true, Some, None, Ok}
+use Rattle.std.specs.Prelude.{◌≡◌, ◌≤◌, ℕ, List, ◌++◌, length, true, Some, None, Ok}
 use Rattle.scfs_anchor.specs.Tree.{Each}
 use Rattle.scfs_base.specs.Limits.{events_limit}
 use Rattle.scfs_policy.specs.declared.rank.RankFacts.{RankFacts}
