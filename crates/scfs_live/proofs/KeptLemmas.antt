@@ -26,7 +26,7 @@ tail_true : (a b : Bool) → (a && b) ≡ true → b ≡ true
 tail_true true b h = h
 tail_true false b h = cc
 
-bytes_eq-true : (x y : List ℕ) → bytes_eq x y ≡ true → x ≡ y
+pub bytes_eq-true : (x y : List ℕ) → bytes_eq x y ≡ true → x ≡ y
 bytes_eq-true [] [] h = refl
 bytes_eq-true [] (b ∷ y) h = cc
 bytes_eq-true (a ∷ x) [] h = cc

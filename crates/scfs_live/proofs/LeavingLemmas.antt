@@ -8,20 +8,16 @@ use Rattle.scfs_schedule.specs.Holding.{is_unfinished}
 use Rattle.scfs_schedule.specs.Text.{event_text, header_text}
 use Rattle.scfs_schedule.specs.declared.types.Header.{Header}
 use Rattle.scfs_schedule.specs.declared.types.Line.{Line}
-use Rattle.scfs_schedule.specs.declared.types.Which.TheVariants as whichs
 use Rattle.scfs_model.specs.History.{Entry, History}
 use Rattle.scfs_live.specs.declared.awaited.Awaited.{Awaited}
 use Rattle.scfs_live.specs.Finding.{is_left_out}
 use Rattle.scfs_live.specs.GoingOn.{awaited_lines, event_lines, journal_lines, kept_lines}
 use Rattle.scfs_live.specs.Journal.{entry_piece, kept_line, pieces_of}
 use Rattle.scfs_live.specs.Keeping.{all_but_last, awaited_text, ended, ended_kept, made_line, mark_if, whole_lines}
-use Rattle.scfs_live.specs.Leaving.{LeftJournalsGoOn, StopsLeaveJournals}
-use Rattle.scfs_live.specs.Limits.{journal_limit}
-use Rattle.scfs_live.specs.Reopened.{old_lines}
-use Rattle.scfs_live.proofs.GoingOnLemmas.{first_lines_go_on}
+use Rattle.scfs_live.specs.Leaving.{StopsLeaveJournals}
 use Rattle.scfs_live.proofs.KeepingLemmas.{all_but_last-pieces}
 use Rattle.scfs_live.proofs.PlainLemmas.{ArePlain, HoldsNoEnd, are_plain_event, are_plain_rows, are_plain_then, header_rows, no_end_then, rows_text}
-use Rattle.scfs_live.proofs.SplitLemmas.{is_unfinished-append, split_whole}
+use Rattle.scfs_live.proofs.SplitLemmas.{is_unfinished-append}
 
 -- a text without a line's end is one piece
 alone : (w : List ℕ) → HoldsNoEnd w → pieces 10 w ≡ w ∷ []
@@ -29,7 +25,7 @@ alone [] h = refl
 alone (b ∷ w) h = ap (λ t. cond t ([] ∷ pieces 10 w) (onto b (pieces 10 w))) (ne_eqb b 10 h.0) ∙ ap (onto b) (alone w h.1)
 
 -- it goes before the first piece of what is behind it
-before : (w rest : List ℕ) → HoldsNoEnd w → pieces 10 (w ++ 10 ∷ rest) ≡ w ∷ pieces 10 rest
+pub before : (w rest : List ℕ) → HoldsNoEnd w → pieces 10 (w ++ 10 ∷ rest) ≡ w ∷ pieces 10 rest
 before [] rest h = refl
 before (b ∷ w) rest h =
     ap (λ t. cond t ([] ∷ pieces 10 (w ++ 10 ∷ rest)) (onto b (pieces 10 (w ++ 10 ∷ rest)))) (ne_eqb b 10 h.0) ∙ ap (onto b) (before w rest h.1)
@@ -229,6 +225,17 @@ record Leaves (text front : List ℕ) (lines : List (List ℕ)) : Type 0 where
   all : lines ≡ more ++ later
   kept : kept_lines (whole_lines (text ++ front)) ≡ kept_lines (whole_lines text) ++ more
 
+-- the whole lines of a front of a text are the first of its own
+pub whole_lines-front : (text more : List ℕ) → (others : List (List ℕ)) × (whole_lines (text ++ more) ≡ whole_lines text ++ others)
+whole_lines-front text more =
+    let p = parts text in
+    let whole : whole_lines text ≡ p.lines =
+    ap whole_lines p.is ∙ whole_lines-append p.lines p.rest p.no_ends ∙ ap (λ ls. p.lines ++ ls) (no_whole_lines p.rest p.no_end) ∙ append-nil p.lines in (
+      whole_lines (p.rest ++ more),
+      ap (λ t. whole_lines (t ++ more)) p.is ∙ ap whole_lines (append_assoc (flat_map ended p.lines) p.rest more)
+          ∙ whole_lines-append p.lines (p.rest ++ more) p.no_ends ∙ ap (λ ls. ls ++ whole_lines (p.rest ++ more)) (sym whole),
+    )
+
 -- behind the parts of a text
 leaves_parts : (text front : List ℕ) (lines : List (List ℕ)) (p : Parts text) (more later : List (List ℕ)) → lines ≡ more ++ later
     → kept_lines (whole_lines (p.rest ++ front)) ≡ more → Leaves text front lines
@@ -292,13 +299,15 @@ unfolding HoldNoEnds
 hold_no_ends [] h = tt
 hold_no_ends (line ∷ lines) h = (h.0, hold_no_ends lines h.2)
 
-header_plain : (header : Header) → ArePlain (whole_lines (header_text header))
-header_plain header =
+-- those of a header
+pub header_whole : (header : Header) → whole_lines (header_text header) ≡ header_rows header
+header_whole header =
     let rows = header_rows header in
-    let plain = are_plain_rows header in
-    let is : whole_lines (header_text header) ≡ rows =
-    ap whole_lines (rows_text header ∙ sym (append-nil (flat_map ended rows))) ∙ whole_lines-append rows [] (hold_no_ends rows plain) ∙ append-nil rows in
-    subst ArePlain (sym is) plain
+    ap whole_lines (rows_text header ∙ sym (append-nil (flat_map ended rows))) ∙ whole_lines-append rows [] (hold_no_ends rows (are_plain_rows header))
+    ∙ append-nil rows
+
+header_plain : (header : Header) → ArePlain (whole_lines (header_text header))
+header_plain header = subst ArePlain (sym (header_whole header)) (are_plain_rows header)
 
 journal_plain : (header : Header) (past : History) → ArePlain (journal_lines header past)
 journal_plain header [] = header_plain header
@@ -320,8 +329,3 @@ stops_leave_journals header place new old front back kept is =
     ∙ sym (append_assoc (mark_if (is_unfinished old)) (awaited_text place.awaited) (pieces_of new past)) ∙ is in
     let l = leaves old front back lines (is_unfinished old) (plain_behind kept_ones lines (subst ArePlain journal (journal_plain header (new ++ past)))) refl text in
     (l.later, journal ∙ ap (λ ls. kept_ones ++ ls) l.all ∙ sym (append_assoc kept_ones l.more l.later) ∙ ap (λ ls. ls ++ l.later) (sym l.kept))
-
-pub left_journals_go_on : LeftJournalsGoOn
-left_journals_go_on header past text done left within =
-    first_lines_go_on header past (old_lines text).lines left.0 done
-    (left.1 ∙ ap (λ ls. kept_lines ls ++ left.0) (sym (split_whole journal_limit whichs.Journal text within)))

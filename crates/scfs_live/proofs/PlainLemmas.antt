@@ -376,7 +376,7 @@ are_plain_event past e =
 
 -- the lines of a header
 
-pub agent_row : ℕ → Mode × List ℕ → List ℕ
+unfoldable pub agent_row : ℕ → Mode × List ℕ → List ℕ
 agent_row number agent = codes "agent " ++ decimal number ++ 32 ∷ mode_text agent.0 ++ 32 ∷ hex_word agent.1
 
 abbrev pub agent_rows : ℕ → List (Mode × List ℕ) → List (List ℕ)

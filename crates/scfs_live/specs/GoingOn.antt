@@ -34,22 +34,7 @@ AreDone header [] = Unit {0}
 AreDone header (e ∷ past) =
     (event_read header (event_text e.event) ≡ Ok e.event) × (is_built e.event ≡ true) × (length past < events_limit) × AreDone header past
 
--- Lines are run again without a stop, up to a history of the first events of this one. Those that are not left out, with those still to
--- be kept behind them, are the lines of its journal: so each kept line is the one that was made.
-pub record GoesOnBehind (header : Header) (past : History) (lines : List (List ℕ)) : Type 0 where
-  pub place : Walk
-  pub walks : Walks header (unwalked header) lines place
-  pub later : History
-  pub first : past ≡ later ++ place.past
-  pub kept : kept_lines lines ++ awaited_lines place.awaited ≡ journal_lines header place.past
-
--- so it is of all lines of which those that are not left out are the first of the journal of a history
-abbrev pub FirstLinesGoOn : Type 0
-FirstLinesGoOn =
-    (header : Header) (past : History) (lines later : List (List ℕ)) → AreDone header past
-    → journal_lines header past ≡ kept_lines lines ++ later → GoesOnBehind header past lines
-
--- so it is of the events of lines that were run again
+-- so it is of the events of an old journal that was run again
 abbrev pub WalkedAreDone : Type 0
 WalkedAreDone =
     (header : Header) (lines : List (List ℕ)) (place : Walk) → Walks header (unwalked header) lines place → AreDone header place.past

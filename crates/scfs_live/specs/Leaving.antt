@@ -1,23 +1,16 @@
 -- What a stop leaves of a journal, whatever the byte at which it stops.
-use Rattle.std.specs.Prelude.{◌≡◌, ℕ, List, ◌++◌, None}
+use Rattle.std.specs.Prelude.{◌≡◌, ℕ, List, ◌++◌}
 use Rattle.scfs_schedule.specs.Holding.{is_unfinished}
 use Rattle.scfs_schedule.specs.declared.types.Header.{Header}
 use Rattle.scfs_model.specs.History.{History}
-use Rattle.scfs_live.specs.GoingOn.{AreDone, GoesOnBehind, awaited_lines, journal_lines, kept_lines}
+use Rattle.scfs_live.specs.GoingOn.{awaited_lines, journal_lines, kept_lines}
 use Rattle.scfs_live.specs.Journal.{pieces_of}
 use Rattle.scfs_live.specs.Keeping.{missing, whole_lines}
-use Rattle.scfs_live.specs.Reopened.{old_lines}
-use Rattle.scfs_live.specs.Reopening.{Walk, Walks, unwalked}
+use Rattle.scfs_live.specs.Reopening.{Walk}
 
 -- what is left of the journal of a history: the whole lines that are not left out are the first of its lines
 abbrev pub IsLeft : Header → History → (text : List ℕ) → Type 0
 IsLeft header past text = (later : List (List ℕ)) × (journal_lines header past ≡ kept_lines (whole_lines text) ++ later)
-
--- what is left of a journal, within the limits, is run again without a stop, up to a history of its first events
-abbrev pub LeftJournalsGoOn : Type 0
-LeftJournalsGoOn =
-    (header : Header) (past : History) (text : List ℕ) → AreDone header past → IsLeft header past text → (old_lines text).passed ≡ None
-    → GoesOnBehind header past (old_lines text).lines
 
 -- An old journal was run again to a place. Behind it came a front of what was missing and of the pieces of new events, as any stop leaves
 -- it: then it is left of the journal with these events.
@@ -27,12 +20,3 @@ StopsLeaveJournals =
     → kept_lines (whole_lines old) ++ awaited_lines place.awaited ≡ journal_lines header place.past
     → missing (is_unfinished old) place.awaited ++ pieces_of new place.past ≡ front ++ back
     → IsLeft header (new ++ place.past) (old ++ front)
-
--- A call ran an old journal again to a place, and wrote any front of what was missing and of the pieces of new events: what it leaves is run
--- again without a stop, within the limits, up to a history of the first of all these events.
-abbrev pub StoppedCallsGoOn : Type 0
-StoppedCallsGoOn =
-    (header : Header) (place : Walk) (new : History) (old front back : List ℕ) → (old_lines old).passed ≡ None
-    → Walks header (unwalked header) (old_lines old).lines place → AreDone header (new ++ place.past)
-    → missing (is_unfinished old) place.awaited ++ pieces_of new place.past ≡ front ++ back → (old_lines (old ++ front)).passed ≡ None
-    → GoesOnBehind header (new ++ place.past) (old_lines (old ++ front)).lines

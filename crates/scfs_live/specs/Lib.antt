@@ -18,6 +18,9 @@ pub mod Reopening
 pub mod Rereading
 pub mod Stopping
 pub mod Stores
+pub mod RunAgain
+pub mod Scheduled
+pub mod Stopped
 pub mod Taking
 pub mod TooLarge
 pub mod Turning

@@ -23,8 +23,9 @@ pub use driver::{Driver, Next, Work};
 pub use driving::drive;
 pub use ending::LiveEnd;
 pub use going_on::{
-    left_journals_go_on, stopped_calls_go_on, stops_leave_journals, walked_events_are_done,
-    walked_lines_are_kept,
+    driven_events_are_done, journals_are_schedules, left_journals_reopen, one_rule_reopens,
+    script_events_are_read_again, stopped_calls_leave, stops_leave_journals,
+    walked_events_are_done, walked_lines_are_kept,
 };
 pub use laws::{drives_make_runs, stores_keep_step};
 pub use reopening::reopen;

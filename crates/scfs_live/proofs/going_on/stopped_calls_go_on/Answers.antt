@@ -1,5 +1,0 @@
-use Rattle.scfs_live.proofs.StoppedLemmas as lemmas
-use Rattle.scfs_live.proofs.going_on.stopped_calls_go_on.Goals as goal
-
-pub returns : goal.returns
-returns c = lemmas.stopped_calls_go_on
