@@ -5,3 +5,7 @@ pub mod Drawn
 pub mod OneBody
 pub mod StoreLemmas
 pub mod CloudLemmas
+pub mod Counting
+pub mod Versions
+pub mod Holding
+pub mod Safe
