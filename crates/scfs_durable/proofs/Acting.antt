@@ -1,5 +1,5 @@
 -- What an event does with agents and requests: nothing, or one agent does something.
-use Rattle.std.proofs.Common.{◌≡◌, ◌⊎◌, inl, inr, ℕ, List, [], ◌∷◌, ◌++◌, Bool, true, false, refl, Option, Some, None, Contains, slice_get, slice_set}
+use Rattle.std.proofs.Common.{◌≡◌, ◌⊎◌, inl, inr, ℕ, List, [], ◌∷◌, ◌++◌, true, refl, Option, Some, slice_get, slice_set}
 use Rattle.scfs_base.specs.declared.naming.UploadNo.{UploadNo}
 use Rattle.scfs_schedule.specs.declared.types.Line.{Line}
 use Rattle.scfs_schedule.specs.declared.types.Line.TheVariants as lines
@@ -7,12 +7,11 @@ use Rattle.scfs_model.specs.Format.{Setup}
 use Rattle.scfs_model.specs.History.{Message}
 use Rattle.scfs_model.specs.Given.{Given}
 use Rattle.scfs_model.specs.Lives.{is_up}
-use Rattle.scfs_model.specs.Agents.{Agent, Input, Calls, Tells, Hears, Turns, Crashes, Starts, Sent, Reaction, silent}
+use Rattle.scfs_model.specs.Agents.{Agent, Input, Calls, Tells, Hears, Turns, Crashes, Starts, Reaction, silent}
 use Rattle.scfs_model.specs.Layers.{Row, rows}
 use Rattle.scfs_model.specs.Reactions.{next_life, reacted}
 use Rattle.scfs_model.specs.Events.{At_agent, Call_comes, Turn_comes, Crash_comes, Start_comes, Place}
 use Rattle.scfs_model.specs.States.{Seat, State, Effect, sum_of, comes, at_place}
-use Rattle.scfs_laws.proofs.Lists.{Places}
 use Rattle.scfs_laws.proofs.Moves.{has_up}
 use Rattle.scfs_laws.proofs.Ways.{own_input, of_event, up_there}
 use Rattle.scfs_durable.proofs.Sending.{AreOwn}

@@ -4,11 +4,9 @@ use Rattle.std.proofs.lemmas.List.{length-set}
 use Rattle.std.proofs.lemmas.Option.{slice_get_within}
 use Rattle.scfs_base.specs.declared.naming.RequestNo.{RequestNo}
 use Rattle.scfs_base.specs.declared.naming.UploadNo.{UploadNo}
-use Rattle.scfs_base.specs.declared.cloud.CloudRequest.{CloudRequest}
-use Rattle.scfs_base.specs.declared.cloud.CloudRequest.TheVariants as requests
 use Rattle.scfs_session.specs.declared.sessions.Session.{Session}
-use Rattle.scfs_model.specs.Names.{upload_no, upload_name}
-use Rattle.scfs_model.specs.Format.{Setup, sealed, object_at}
+use Rattle.scfs_model.specs.Names.{upload_no}
+use Rattle.scfs_model.specs.Format.{Setup}
 use Rattle.scfs_model.specs.Given.{given_of}
 use Rattle.scfs_model.specs.History.{Entry, History}
 use Rattle.scfs_model.specs.Agents.{Upload, Closed, Agent, Sent}
@@ -18,8 +16,8 @@ use Rattle.scfs_model.specs.Events.{place_of}
 use Rattle.scfs_model.specs.States.{Seat, State, Effect, first_seat}
 use Rattle.scfs_model.specs.Runs.{effect_after, actual}
 use Rattle.scfs_laws.specs.Acknowledged.{WasSent, IsUploading, WasUploading}
-use Rattle.scfs_laws.proofs.Lists.{Each, Pairs, Places, some_same, each-map, each-inside, each_of-contains, places_set, places_replicate}
-use Rattle.scfs_durable.proofs.Sending.{IsBefore, IsDrawn, IsMade, IsSent, IsOwn, IsBegun, AreOwn, made_on, own_on}
+use Rattle.scfs_laws.proofs.Lists.{Pairs, Places, some_same, each-inside, each_of-contains, places_set, places_replicate}
+use Rattle.scfs_durable.proofs.Sending.{IsBefore, IsDrawn, IsSent, IsBegun, AreOwn, made_on, own_on}
 use Rattle.scfs_durable.proofs.Reacting.{Does, IsNew, IsThere, HadOrNew}
 use Rattle.scfs_durable.proofs.Acting.{IsAct, Acts, event_acts}
 

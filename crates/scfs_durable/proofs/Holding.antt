@@ -1,5 +1,5 @@
 -- What a cloud acknowledged to an agent it holds from then on.
-use Rattle.std.proofs.Common.{◌≡◌, ◌⊎◌, inl, inr, ℕ, zero, suc, ◌+◌, ◌*◌, ◌<◌, List, [], ◌∷◌, length, replicate, refl, sym, ap, ◌∙◌, subst, arith, Some, None, Contains}
+use Rattle.std.proofs.Common.{◌≡◌, inl, inr, ℕ, zero, suc, ◌+◌, ◌*◌, List, [], ◌∷◌, replicate, refl, sym, ap, ◌∙◌, subst, arith, Some, None}
 use Rattle.std.specs.List.{slice_index_or}
 use Rattle.scfs_base.specs.declared.naming.RequestNo.{RequestNo}
 use Rattle.scfs_base.specs.declared.cloud.CloudAnswer.{CloudAnswer}
@@ -10,7 +10,7 @@ use Rattle.scfs_net.specs.Store.{Objects}
 use Rattle.scfs_net.specs.Queues.{new_cloud, cloud_at}
 use Rattle.scfs_model.specs.Lists.{first_of}
 use Rattle.scfs_model.specs.Format.{Setup}
-use Rattle.scfs_model.specs.History.{Message, Of_answer, Entry, History}
+use Rattle.scfs_model.specs.History.{Of_answer, Entry, History}
 use Rattle.scfs_model.specs.Agents.{Sent}
 use Rattle.scfs_model.specs.Layers.{rows}
 use Rattle.scfs_model.specs.Clouds.{net, moved_by, message_of, oldest_reply, reply_message, IsServed}

@@ -6,7 +6,6 @@ use Rattle.scfs_base.specs.declared.cloud.CloudRequest.{CloudRequest}
 use Rattle.scfs_base.specs.declared.cloud.CloudRequest.TheVariants as requests
 use Rattle.scfs_base.specs.Names.{IsUploadNo}
 use Rattle.scfs_base.proofs.NameLemmas.{names_differ}
-use Rattle.scfs_model.specs.Names.{upload_name}
 use Rattle.scfs_model.specs.Format.{Setup, sealed, object_at}
 use Rattle.scfs_model.specs.History.{History}
 use Rattle.scfs_model.specs.Agents.{Sent}

@@ -1,22 +1,18 @@
 -- A whole reaction: what it sends, and which upload is drawn in it.
-use Rattle.std.proofs.Common.{◌≡◌, ◌⊎◌, inl, inr, ℕ, ◌+◌, ◌<◌, ◌≤◌, List, [], ◌∷◌, ◌++◌, Bool, true, false, refl, sym, ap, ◌∙◌, subst, arith, Option, Some, None, Contains, le_refl, le_trans, le-add_right}
+use Rattle.std.proofs.Common.{◌≡◌, ◌⊎◌, inl, inr, ℕ, ◌+◌, ◌≤◌, List, [], ◌++◌, true, refl, sym, ap, ◌∙◌, subst, arith, Some, None, Contains, le_refl, le_trans, le-add_right}
 use Rattle.scfs_base.specs.declared.naming.UploadNo.{UploadNo}
-use Rattle.scfs_base.specs.declared.cloud.CloudRequest.{CloudRequest}
-use Rattle.scfs_base.specs.declared.cloud.CloudRequest.TheVariants as requests
 use Rattle.scfs_model.specs.Lists.{below}
-use Rattle.scfs_model.specs.Names.{upload_no, upload_name}
-use Rattle.scfs_model.specs.Format.{Setup, clouds_of, sealed, object_at}
+use Rattle.scfs_model.specs.Names.{upload_no}
+use Rattle.scfs_model.specs.Format.{Setup, clouds_of, object_at}
 use Rattle.scfs_model.specs.Given.{Given}
 use Rattle.scfs_model.specs.Lives.{is_up}
-use Rattle.scfs_model.specs.LockSteps.{Unlock_all}
-use Rattle.scfs_model.specs.Steps.{On_locks}
-use Rattle.scfs_model.specs.Agents.{Upload, Closed, Agent, Input, Calls, Tells, Hears, Turns, Crashes, Starts, Sent, Reaction, silent, followed, asks_step}
+use Rattle.scfs_model.specs.Agents.{Upload, Closed, Agent, Input, Calls, Tells, Hears, Turns, Crashes, Starts, Sent, Reaction, silent, followed}
 use Rattle.scfs_model.specs.Layers.{Row, rows}
 use Rattle.scfs_model.specs.Closes.{begins}
 use Rattle.scfs_model.specs.Reactions.{next_life, responded, next_begun, reacted}
 use Rattle.scfs_laws.proofs.Lists.{Each, Pairs, each-map, each-append, pairs-join}
 use Rattle.scfs_laws.proofs.Moves.{Known, IsInput, any_reply, has_up, Moves, responds, next_begins, closing}
-use Rattle.scfs_durable.proofs.Sending.{IsBefore, IsDrawn, IsMade, IsSent, IsBegun, AreOwn, made_on, own_on, run_drawn, run_order, run_made}
+use Rattle.scfs_durable.proofs.Sending.{IsBefore, IsDrawn, IsSent, IsBegun, AreOwn, made_on, own_on, run_drawn, run_order, run_made}
 
 module _ (s : Setup) (a : ℕ) (Had : UploadNo → (contents : List ℕ) → Type 0) where
   -- what an agent does with the uploads that it had
@@ -89,7 +85,6 @@ module _ (s : Setup) (a : ℕ) (Had : UploadNo → (contents : List ℕ) → Typ
         start = ⊥;
         takes = Unit {0};
       }
-
 
   pub moves : (given : Given) → Moves s rows a others given Keeps
   moves given =

@@ -1,9 +1,6 @@
 -- Versions are safe where few clouds lie.
-use Rattle.std.proofs.Common.{◌≡◌, ◌≢◌, ℕ, ◌+◌, ◌<◌, ◌≤◌, List, [], ◌∷◌, length, sym, ap, ◌∙◌, subst, arith, Contains}
-use Rattle.std.specs.List.{All}
+use Rattle.std.proofs.Common.{ℕ, ◌<◌, [], ◌∷◌, sym, subst, arith, Contains}
 use Rattle.std.proofs.lemmas.List.Elements.{All-contains}
-use Rattle.scfs_base.specs.declared.naming.FileId.{FileId}
-use Rattle.scfs_base.specs.declared.naming.RequestNo.{RequestNo}
 use Rattle.scfs_model.specs.Format.{Setup, clouds_of}
 use Rattle.scfs_model.specs.History.{History}
 use Rattle.scfs_model.specs.Layers.{Row}
@@ -13,8 +10,8 @@ use Rattle.scfs_laws.specs.Acknowledged.{WasAcked, WasUploading, put_of}
 use Rattle.scfs_laws.proofs.AckedLaw.{to_pairs}
 use Rattle.scfs_laws.proofs.Lists.{each-map, each-all}
 use Rattle.scfs_durable.specs.Stores.{FewLie, IsTruthful}
-use Rattle.scfs_durable.specs.Safe.{Backs, IsSafe, AreSafe, VersionsStaySafe, AlwaysSafe, CommittedStay, IsNameable}
-use Rattle.scfs_durable.proofs.Counting.{IsPicked, pick, pairs_from_all}
+use Rattle.scfs_durable.specs.Safe.{Backs, IsSafe, AreSafe, AlwaysSafe, CommittedStay, IsNameable}
+use Rattle.scfs_durable.proofs.Counting.{pick, pairs_from_all}
 use Rattle.scfs_durable.proofs.OneBody.{of_agent}
 use Rattle.scfs_durable.proofs.Holding.{acked_held, nameable_before}
 use Rattle.scfs_durable.proofs.Versions.{IsStored, versions_stored, committed_stay}

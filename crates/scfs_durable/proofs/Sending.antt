@@ -1,23 +1,15 @@
 -- What an agent sends in a reaction it drew in it: requests under new numbers, each a Get or the Put of an object of one of its uploads.
-use Rattle.std.proofs.Common.{◌≡◌, ◌⊎◌, inl, inr, ℕ, ◌+◌, ◌<◌, ◌≤◌, List, [], ◌∷◌, ◌++◌, length, map, Bool, true, false, refl, sym, ap, ◌∙◌, subst, arith, Option, Some, None, Contains, le_refl, le_trans}
-use Rattle.scfs_base.specs.declared.naming.RequestNo.{RequestNo}
+use Rattle.std.proofs.Common.{◌≡◌, ℕ, ◌+◌, ◌<◌, ◌≤◌, List, [], ◌∷◌, length, map, refl, arith, Option, Some, None}
 use Rattle.scfs_base.specs.declared.naming.UploadNo.{UploadNo}
 use Rattle.scfs_base.specs.declared.cloud.CloudRequest.{CloudRequest}
 use Rattle.scfs_base.specs.declared.cloud.CloudRequest.TheVariants as requests
 use Rattle.scfs_session.specs.declared.sessions.Session.{Session}
-use Rattle.scfs_model.specs.Lists.{below}
-use Rattle.scfs_model.specs.Names.{upload_no, upload_name}
-use Rattle.scfs_model.specs.Format.{Setup, clouds_of, sealed, object_at}
-use Rattle.scfs_model.specs.Given.{Given}
-use Rattle.scfs_model.specs.Lives.{is_up}
-use Rattle.scfs_model.specs.LockSteps.{Unlock_all}
-use Rattle.scfs_model.specs.Steps.{On_locks}
+use Rattle.scfs_model.specs.Names.{upload_name}
+use Rattle.scfs_model.specs.Format.{Setup, sealed, object_at}
 use Rattle.scfs_model.specs.Asked.{Asked, asked_of}
-use Rattle.scfs_model.specs.Agents.{Upload, Closed, Agent, Input, Calls, Tells, Hears, Turns, Crashes, Starts, Sent, Reaction, silent, followed}
-use Rattle.scfs_model.specs.Layers.{Row, rows}
-use Rattle.scfs_model.specs.Reactions.{next_life, responded, next_begun, reacted}
-use Rattle.scfs_laws.proofs.Lists.{Each, Pairs, each-map, each-append, pairs-join}
-use Rattle.scfs_laws.proofs.Moves.{Known, IsInput, any_reply, has_up, Moves, responds, next_begins}
+use Rattle.scfs_model.specs.Agents.{Upload, Closed, Sent}
+use Rattle.scfs_model.specs.Layers.{Row}
+use Rattle.scfs_laws.proofs.Lists.{Each, Pairs, each-map}
 
 -- the second of two requests has the greater number
 abbrev pub IsBefore : Sent → Sent → Type 0

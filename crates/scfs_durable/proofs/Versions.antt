@@ -1,7 +1,7 @@
 -- Each version in the tree was acknowledged by enough clouds, and a version that was committed stays in the tree.
-use Rattle.std.proofs.Common.{◌≡◌, ◌≢◌, ◌⊎◌, inl, inr, ℕ, ◌+◌, ◌<◌, ◌≤◌, List, [], ◌∷◌, ◌++◌, length, refl, sym, ap, ◌∙◌, subst, arith, Option, Some, Contains, slice_get}
-use Rattle.std.specs.List.{All, AllPairs}
-use Rattle.std.proofs.lemmas.List.Elements.{All-contains, Contains-append_left, Contains-append_right}
+use Rattle.std.proofs.Common.{◌≡◌, ◌≢◌, ◌⊎◌, inl, inr, ℕ, ◌+◌, ◌<◌, ◌≤◌, List, [], ◌∷◌, ◌++◌, length, refl, sym, ◌∙◌, subst, arith, Option, Contains}
+use Rattle.std.specs.List.{AllPairs}
+use Rattle.std.proofs.lemmas.List.Elements.{Contains-append_left, Contains-append_right}
 use Rattle.std.proofs.lemmas.List.{append-nil}
 use Rattle.scfs_base.specs.declared.naming.FileId.{FileId}
 use Rattle.scfs_base.specs.declared.naming.RequestNo.{RequestNo}
@@ -18,7 +18,7 @@ use Rattle.scfs_model.specs.States.{State, Effect, at_place}
 use Rattle.scfs_model.specs.Runs.{effect_after, actual, Happens}
 use Rattle.scfs_laws.specs.Acknowledged.{WasAcked, WasUploading, put_of, IsAcknowledged}
 use Rattle.scfs_laws.proofs.AckedLaw.{commits_acknowledged}
-use Rattle.scfs_laws.proofs.Lists.{Each, each-map, each-append, each_of-contains}
+use Rattle.scfs_laws.proofs.Lists.{Each, each-map, each-append}
 use Rattle.scfs_laws.proofs.NamesSteps.{session_cases}
 use Rattle.scfs_laws.proofs.Ways.{of_event}
 use Rattle.scfs_durable.specs.Safe.{WasCommitted}
