@@ -11,6 +11,7 @@ use Rattle.scfs_model.specs.Runs.{Run}
 use Rattle.scfs_model.specs.UnitFormat.{under}
 use Rattle.scfs_laws.specs.Blocks.{NoClash}
 use Rattle.scfs_cli.specs.declared.closing.Finish.{Finish}
+use Rattle.scfs_durable.specs.Safe.{VersionsStaySafe}
 use Rattle.scfs_world.specs.Happening.{IsPlayed}
 use Rattle.scfs_cli.specs.Finishing.{EndsWith}
 use Rattle.scfs_cli.specs.declared.closing.Filled.{Filled}
@@ -80,6 +81,7 @@ pub record ReplaysText (allows : RankFacts → ℕ → Type 0) (taken : List ℕ
   pub plays : IsPlayed allows header past
   pub held : ReadsHeld (under header) past
   pub newest : OpensNewest past
+  pub safe : VersionsStaySafe (under header) past
   pub run : NoClash header past → Run (under header) past
   pub wrote : GetsText status before after (transcript past ++ closing_text (last_line (length past) finish filled))
   pub decided : IsStatus status (last_line (length past) finish filled)

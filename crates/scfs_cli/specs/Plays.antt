@@ -15,6 +15,7 @@ use Rattle.scfs_laws.specs.Newest.{OpensNewest}
 use Rattle.scfs_model.specs.Runs.{due, Run}
 use Rattle.scfs_laws.specs.Blocks.{NoClash}
 use Rattle.scfs_model.specs.UnitFormat.{under}
+use Rattle.scfs_durable.specs.Safe.{VersionsStaySafe}
 use Rattle.scfs_world.specs.Happening.{IsPlayed, Stands}
 use Rattle.scfs_world.specs.State.{WorldState}
 use Rattle.scfs_cli.specs.declared.closing.Filled.{Filled}
@@ -61,6 +62,7 @@ pub record Known (allows : RankFacts → ℕ → Type 0) (header : Header) (past
   pub plays : IsPlayed allows header past
   pub held : ReadsHeld (under header) past
   pub newest : OpensNewest past
+  pub safe : VersionsStaySafe (under header) past
   pub run : NoClash header past → Run (under header) past
 
 -- what a text says, with a history's events in front

@@ -9,3 +9,4 @@ pub mod Counting
 pub mod Versions
 pub mod Holding
 pub mod Safe
+pub mod OneMore
