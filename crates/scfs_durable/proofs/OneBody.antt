@@ -61,8 +61,8 @@ module _ (s : Setup) (past : History) (few : IsNameable s past) where
       let k : IsSeat s past a seat.0 = d.seats a seat.0 seat.1 in
       let drew = k.drew u contents was in
       let member : a < length s.header.agents = d.members a u contents was in
-      let agents : length s.header.agents ≤ 2 ^ 8 = few.agents in
-      let events : length past < 2 ^ 24 = few.events in
+      let agents = few.agents in
+      let events = few.events in
       let i : seat.0.agent.incarnation ≤ length past = k.incarnation in
       record {
         agent = omega (arith, drew.0, member, agents);
