@@ -57,7 +57,8 @@ Turns allows header past event before after waiting waiting' turns.WriteFault =
 Turns allows header past event before after waiting waiting' turns.Memory = Passes before after waiting waiting' []
 
 -- What is known of a history that was played: each read of a session shows the bytes that the session holds; each open is of the
--- newest version; and where no two different blocks share a digest it is a run of the file map.
+-- newest version; where at most f clouds lied each version stays on f + 1 others; and where no two different blocks share a digest it is a run
+-- of the file map.
 pub record Known (allows : RankFacts → ℕ → Type 0) (header : Header) (past : History) : Type 0 where
   pub plays : IsPlayed allows header past
   pub held : ReadsHeld (under header) past
