@@ -10,3 +10,4 @@ pub mod Versions
 pub mod Holding
 pub mod Safe
 pub mod OneMore
+pub mod Variants
