@@ -109,6 +109,7 @@ module _ (allows : RankFacts → ℕ → Type 0) (left now : Option (List ℕ)) 
             plays = plays.known.plays;
             held = plays.known.held;
             newest = plays.known.newest;
+            safe = plays.known.safe;
             run = plays.known.run;
             mapped = of_the_map;
             text = text;

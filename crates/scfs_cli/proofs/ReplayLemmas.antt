@@ -126,6 +126,7 @@ replays allows left now before b after result ends ends' faults faults' plays te
           plays = plays.known.plays;
           held = plays.known.held;
           newest = plays.known.newest;
+          safe = plays.known.safe;
           run = plays.known.run;
           wrote = wrote;
           decided = decided;

@@ -1,11 +1,13 @@
 -- A run, event by event.
 use Rattle.std.proofs.Common.{◌≡◌, ◌≤◌, ◌^◌, ◌<◌, ℕ, ◌+◌, List, [], ◌∷◌, ◌++◌, false, refl, ap, sym, subst, Option, Some, None, length, arith, length-append, inl}
 use Rattle.std.specs.Prelude.{IfSome}
+use Rattle.std.proofs.lemmas.List.Elements.{All-nil}
 use Rattle.scfs_base.specs.Limits.{input_limit}
 use Rattle.scfs_base.specs.Outside.{Takes, Puts}
 use Rattle.scfs_policy.specs.declared.rank.RankFacts.{RankFacts}
 use Rattle.scfs_schedule.specs.declared.types.Event.{Event}
 use Rattle.scfs_schedule.specs.declared.types.Header.{Header}
+use Rattle.scfs_schedule.specs.Grammar.{IsHeader}
 use Rattle.scfs_schedule.specs.Reading.{Read, Reading, gives, read}
 use Rattle.scfs_model.specs.Format.{Setup}
 use Rattle.scfs_model.specs.History.{Entry, History, transcript}
@@ -15,6 +17,7 @@ use Rattle.scfs_laws.specs.Held.{ReadsHeld}
 use Rattle.scfs_laws.specs.Laws.{NoClashBefore}
 use Rattle.scfs_laws.specs.Newest.{OpensNewest}
 use Rattle.scfs_live.specs.Edges.{GetsPart}
+use Rattle.scfs_durable.specs.Safe.{AlwaysSafe, IsNameable, IsSafe}
 use Rattle.scfs_cli.specs.declared.closing.Filled.{Filled}
 use Rattle.scfs_cli.specs.declared.closing.Filled.TheVariants as filleds
 use Rattle.scfs_cli.specs.declared.closing.Finish.{Finish}
@@ -40,23 +43,29 @@ tells_then a b c d e f filled p q = record {
   failed = λ is. let r = q.failed is in omega (arith, p.later_faults, r);
 }
 
+-- a header has few enough agents that all names of uploads have their widths
+pub nameable : (header : Header) (past : History) → IsHeader header → length past < 2 ^ 24 → IsNameable (under header) past
+nameable header past is few = let agents = is.agents.1 in record { agents = omega (arith, agents); events = few }
+
 -- before its first event
 pub nothing_known : (allows : RankFacts → ℕ → Type 0) (header : Header) → Known allows header []
 nothing_known allows header = record {
   plays = record { happens = tt; served = tt; ranked = tt; events = tt; carried = omega arith };
   held = tt;
   newest = tt;
+  safe = λ few. All-nil (IsSafe (under header) []);
   run = λ _. tt;
 }
 
 -- with one event more
 pub known_next : (allows : RankFacts → ℕ → Type 0) (header : Header) (past : History) (event : Event) (entry : Entry) → NoClashBefore → ((s : Setup) (past : History) → Happens s past → ReadsHeld s past) →
-    ((s : Setup) (past : History) → length past < 2 ^ 24 → Happens s past → OpensNewest past) → length (entry ∷ past) < 2 ^ 24 →
+    ((s : Setup) (past : History) → length past < 2 ^ 24 → Happens s past → OpensNewest past) → AlwaysSafe → IsHeader header → length (entry ∷ past) < 2 ^ 24 →
     Known allows header past → IsNext allows header past event entry → Known allows header (entry ∷ past)
-known_next allows header past event entry before held newest few known next = record {
+known_next allows header past event entry before held newest safe is few known next = record {
   plays = next.plays;
   held = held (under header) (entry ∷ past) next.plays.happens;
   newest = newest (under header) (entry ∷ past) few next.plays.happens;
+  safe = safe (under header) (entry ∷ past) (nameable header (entry ∷ past) is few) next.plays.happens next.plays.served;
   run = λ apart. (next.permits apart, known.run (before header entry past apart));
 }
 

@@ -15,6 +15,7 @@ use Rattle.scfs_model.specs.UnitFormat.{under}
 use Rattle.scfs_laws.specs.Held.{ReadsHeld}
 use Rattle.scfs_laws.specs.Laws.{RunsWithoutClash}
 use Rattle.scfs_laws.specs.Newest.{OpensNewest}
+use Rattle.scfs_durable.specs.Safe.{AlwaysSafe}
 use Rattle.scfs_world.specs.Happening.{IsPlayed, Stands}
 use Rattle.scfs_world.specs.State.{WorldState}
 use Rattle.scfs_live.specs.Asked.{AreAsked, Told}
@@ -46,6 +47,7 @@ use Rattle.scfs_cli.specs.Scripting.{script_of}
 use Rattle.scfs_cli.specs.Underway.{EndsScript, GivesEvent, ReachesOn, ScriptSoFar}
 use Rattle.scfs_cli.proofs.ComingLemmas.{IsComing, coming_due, coming_first, coming_given, coming_more, coming_whole, some_done}
 use Rattle.scfs_cli.proofs.LiveLemmas.{end_writes_then, live_then, stops_then, wrote_then}
+use Rattle.scfs_cli.proofs.RunLemmas.{nameable}
 use Rattle.scfs_cli.proofs.ScriptLemmas.{leads_further}
 
 -- 1 before the first event
@@ -55,12 +57,13 @@ one_if_none (Some x) = 0
 
 -- what is known of a history that was played
 pub known_of : (allows : RankFacts → ℕ → Type 0) (header : Header) (past : History) → RunsWithoutClash → ((s : Setup) (past : History) → Happens s past → ReadsHeld s past)
-    → ((s : Setup) (past : History) → length past < 2 ^ 24 → Happens s past → OpensNewest past) → IsHeader header → length past ≤ events_limit
+    → ((s : Setup) (past : History) → length past < 2 ^ 24 → Happens s past → OpensNewest past) → AlwaysSafe → IsHeader header → length past ≤ events_limit
     → IsPlayed allows header past → Known allows header past
-known_of allows header past runs held newest is few plays = record {
+known_of allows header past runs held newest safe is few plays = record {
   plays = plays;
   held = held (under header) past plays.happens;
   newest = newest (under header) past (omega (arith, few)) plays.happens;
+  safe = safe (under header) past (nameable header past is (omega (arith, few))) plays.happens plays.served;
   run = λ apart. runs header past is plays.happens plays.served plays.events apart;
 }
 

@@ -15,6 +15,7 @@ use Rattle.scfs_model.specs.Layers.{Row, row_of}
 use Rattle.scfs_model.specs.Runs.{actual, mapped, Run}
 use Rattle.scfs_model.specs.States.{State}
 use Rattle.scfs_model.specs.UnitFormat.{under}
+use Rattle.scfs_durable.specs.Safe.{VersionsStaySafe}
 use Rattle.scfs_world.specs.Happening.{IsPlayed}
 use Rattle.scfs_world.specs.State.{WorldState}
 use Rattle.scfs_cli.specs.Closing.{last_line_text}
@@ -84,6 +85,7 @@ pub record DumpsText (allows : RankFacts → ℕ → Type 0) (taken : List ℕ) 
   pub plays : IsPlayed allows header past
   pub held : ReadsHeld (under header) past
   pub newest : OpensNewest past
+  pub safe : VersionsStaySafe (under header) past
   pub run : NoClash header past → Run (under header) past
   pub mapped : finish ≡ Some (finishes.Text endings.Ended) → NoClash header past → IsOfMap header past
   pub text : List ℕ

@@ -12,6 +12,7 @@ use Rattle.scfs_model.specs.UnitFormat.{under}
 use Rattle.scfs_laws.specs.Blocks.{NoClash}
 use Rattle.scfs_live.specs.Edges.{GetsPart}
 use Rattle.scfs_cli.specs.declared.closing.Finish.{Finish}
+use Rattle.scfs_durable.specs.Safe.{VersionsStaySafe}
 use Rattle.scfs_world.specs.Happening.{IsPlayed}
 use Rattle.scfs_cli.specs.Finishing.{EndsWith}
 use Rattle.scfs_cli.specs.declared.closing.Filled.{Filled}
@@ -69,8 +70,8 @@ last_line count (Some finish) filled = closing_of count finish filled
 
 -- The headline, of bytes taken from the input: there is a history of the events that are played of what the grammar reads in them,
 -- under the header that stands in them. Its lines are those that agents, space and clouds make, each over the bytes that it was
--- really given; each read of a session shows the bytes that the session holds; each open is of the newest version, by the lines alone; and
--- where no two different blocks share a digest it is a run of the file map, whatever the clouds answered. Out got its transcript and then
+-- really given; each read of a session shows the bytes that the session holds; each open is of the newest version, by the lines alone;
+-- where at most f clouds lied each version stays on f + 1 others; and where no two different blocks share a digest it is a run of the file map, whatever the clouds answered. Out got its transcript and then
 -- the last line, which the end of what is played and of the reading decide. Reading kept pace with what out got.
 pub record ReplaysText (allows : RankFacts → ℕ → Type 0) (taken : List ℕ) (filled : Filled) (before after : Option (List ℕ)) (status : Status) : Type 0 where
   pub header : Header
@@ -81,6 +82,7 @@ pub record ReplaysText (allows : RankFacts → ℕ → Type 0) (taken : List ℕ
   pub plays : IsPlayed allows header past
   pub held : ReadsHeld (under header) past
   pub newest : OpensNewest past
+  pub safe : VersionsStaySafe (under header) past
   pub run : NoClash header past → Run (under header) past
   pub wrote : GetsText status before after (transcript past ++ closing_text (last_line (length past) finish filled))
   pub decided : IsStatus status (last_line (length past) finish filled)

@@ -15,6 +15,7 @@ use Rattle.scfs_laws.specs.Newest.{OpensNewest}
 use Rattle.scfs_model.specs.Runs.{due, Run}
 use Rattle.scfs_laws.specs.Blocks.{NoClash}
 use Rattle.scfs_model.specs.UnitFormat.{under}
+use Rattle.scfs_durable.specs.Safe.{VersionsStaySafe}
 use Rattle.scfs_world.specs.Happening.{IsPlayed, Stands}
 use Rattle.scfs_world.specs.State.{WorldState}
 use Rattle.scfs_live.specs.Edges.{GetsPart}
@@ -58,11 +59,13 @@ Turns allows header past event before after waiting waiting' turns.WriteFault =
 Turns allows header past event before after waiting waiting' turns.Memory = Passes before after waiting waiting' []
 
 -- What is known of a history that was played: each read of a session shows the bytes that the session holds; each open is of the
--- newest version; and where no two different blocks share a digest it is a run of the file map.
+-- newest version; where at most f clouds lied each version stays on f + 1 others; and where no two different blocks share a digest it is a run
+-- of the file map.
 pub record Known (allows : RankFacts → ℕ → Type 0) (header : Header) (past : History) : Type 0 where
   pub plays : IsPlayed allows header past
   pub held : ReadsHeld (under header) past
   pub newest : OpensNewest past
+  pub safe : VersionsStaySafe (under header) past
   pub run : NoClash header past → Run (under header) past
 
 -- what a text says, with a history's events in front

@@ -24,6 +24,7 @@ use crate::closing::{Filled, Finish};
 use crate::intake::{Given, Intake};
 use crate::waiting::{PushFault, Waiting};
 use scfs_base::{Failed, Memory, Sink, Source};
+use scfs_durable::versions_stay_safe;
 use scfs_laws::{no_clash_before, opens_are_newest, reads_are_held};
 use scfs_policy::{RankFacts, RankRule};
 use scfs_schedule::Event;
@@ -208,6 +209,7 @@ fn play_text<I: Source, O: Sink, R: Fn(RankFacts) -> u64>(
     no_clash_before();
     reads_are_held();
     opens_are_newest();
+    versions_stay_safe();
     standing_worlds_are_shown();
     let mut intake = Intake::new(alloc, false);
     let mut world = match begin(alloc, &mut intake, input, waiting, out) {

@@ -18,6 +18,7 @@ use crate::intake::{Given, Intake};
 use crate::stopping::RunEnd;
 use scfs_base::{Sink, Source};
 use scfs_cloud::Cloud;
+use scfs_durable::versions_stay_safe;
 use scfs_laws::{opens_are_newest, reads_are_held, runs_without_clash};
 use scfs_live::{LiveEnd, drive, reopen};
 use scfs_policy::{RankFacts, RankRule};
@@ -91,6 +92,7 @@ pub fn run<I: Source, L: Source, O: Sink, J: Sink, C: Cloud, R: Fn(RankFacts) ->
 {
     reads_are_held();
     opens_are_newest();
+    versions_stay_safe();
     runs_without_clash();
     let mut intake = Intake::new(alloc, true);
     let header = match read_header(&mut intake, input) {

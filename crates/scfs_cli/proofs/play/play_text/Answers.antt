@@ -74,6 +74,7 @@ returns-in-WriteFault-clause-plays g c =
     let at = ap (λ n. finish_at c.line.result n c.in-Ok-Event.event) c.events-count.ensures ∙ c.in-WriteFault.ensures.finish in
     let turn = c.in-WriteFault.ensures.turns i.header i.past i.stands i.going.known.plays in
     let known = known_next _ i.header i.past c.in-Ok-Event.event turn.0 c.no_clash_before.ensures c.reads_are_held.ensures c.opens_are_newest.ensures.made
+    c.versions_stay_safe.ensures (subst (λ (h : Header). IsHeader h) i.stands.by_header i.world.header)
     (omega (arith, i.stands.count, i.few)) i.going.known turn.1 in
     without _ _ _ _ _ _ _ _ c.without_world-in-WriteFault.ensures (λ e. cc)
     (plays_unwritten _ _ _ _ _ _ _ _ _ _ _ i.header i.past i.going _ (record { more = on.draws.0; draws = on.draws.1; waited = on.draws.2; passes = on.passes })
@@ -89,6 +90,7 @@ events-preserved g c =
     let turn = c.in-Done.ensures.turns i.header i.past i.stands i.going.known.plays in
     let done = c.play_event.ensures.done c.in-Done.after c.in-Done.is in
     let known = known_next _ i.header i.past c.in-Ok-Event.event turn.0 c.no_clash_before.ensures c.reads_are_held.ensures c.opens_are_newest.ensures.made
+    c.versions_stay_safe.ensures (subst (λ (h : Header). IsHeader h) i.stands.by_header i.world.header)
     (omega (arith, i.stands.count, i.few)) i.going.known turn.1 in
     record {
       header = i.header;

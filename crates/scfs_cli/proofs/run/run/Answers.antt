@@ -34,7 +34,7 @@ returns-in-Err-reopen-clause-runs g c =
         pace = read.1;
         reopening = reopen.ends;
         known = λ lines place again.
-            known_of _ c.in-Ok.header place.past c.runs_without_clash.ensures c.reads_are_held.ensures c.opens_are_newest.ensures.made c.in-Ok.ensures.header.0
+            known_of _ c.in-Ok.header place.past c.runs_without_clash.ensures c.reads_are_held.ensures c.opens_are_newest.ensures.made c.versions_stay_safe.ensures c.in-Ok.ensures.header.0
             (walk_few c.in-Ok.header (unwalked c.in-Ok.header) lines place again.walks (omega arith)) again.plays;
         read_failed = reopen.read_fault;
         write_failed = reopen.write_fault;
@@ -83,7 +83,7 @@ returns-in-Err-drive-clause-runs g c =
     let ends = on.ends i.header (i.behind.new ++ i.place.past) i.behind.stands i.behind.plays in
     let e = drove_to allows i.header i.place.past c.events.world _ c.events.intake _ _ _ _ _ _ _ _ i.behind _ c.in-Err-drive.why _ _ _
     (ap (begins_with (under i.header)) (sym c.as_ref.ensures.value)) ends in
-    let known = known_of allows i.header (e.new ++ i.place.past) c.runs_without_clash.ensures c.reads_are_held.ensures c.opens_are_newest.ensures.made i.is e.few e.plays in
+    let known = known_of allows i.header (e.new ++ i.place.past) c.runs_without_clash.ensures c.reads_are_held.ensures c.opens_are_newest.ensures.made c.versions_stay_safe.ensures i.is e.few e.plays in
     record {
       taken = i.behind.script.taken;
       reads = reads_open _ _ _ _ _ i.behind.script;
@@ -141,7 +141,7 @@ returns-in-Err-next_event-clause-runs g c =
     let few : length (on.0.new ++ i.place.past) ≤ events_limit = omega (arith, on.0.stands.count, c.in-Ok-drive.ensures.world.2) in
     let e = ended allows i.header i.place.past c.in-Ok-drive.after d.driver c.events.intake _ _ _ _ _ _ _ _ on.0 on.2 c.events-in-events.result end gives.0
     (c.events-in-events.ensures ∙ on.0.stands.count) few gives.2 gives.3 in
-    let known = known_of allows i.header (e.new ++ i.place.past) c.runs_without_clash.ensures c.reads_are_held.ensures c.opens_are_newest.ensures.made i.is e.few e.plays in
+    let known = known_of allows i.header (e.new ++ i.place.past) c.runs_without_clash.ensures c.reads_are_held.ensures c.opens_are_newest.ensures.made c.versions_stay_safe.ensures i.is e.few e.plays in
     record {
       taken = gives.0;
       reads = gives.1;

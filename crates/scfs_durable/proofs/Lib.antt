@@ -1,0 +1,13 @@
+pub mod Sending
+pub mod Reacting
+pub mod Acting
+pub mod Drawn
+pub mod OneBody
+pub mod StoreLemmas
+pub mod CloudLemmas
+pub mod Counting
+pub mod Versions
+pub mod Holding
+pub mod Safe
+pub mod OneMore
+pub mod Variants

@@ -1,0 +1,7 @@
+//! What was reported as stored stays stored: each version in the shared tree is held by more clouds that never lied than there may be bad ones. The
+//! functions only carry the laws.
+#![tactic(auto)]
+
+mod laws;
+
+pub use laws::{committed_versions_stay, versions_stay_safe};
