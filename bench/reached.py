@@ -1,5 +1,5 @@
 #!/usr/bin/env python3
-"""Counts the definitions that the headline reaches: those that the clauses of `scfs` (crates/scfs_cli/src/call.rt) name, those that
+"""Counts the definitions that the headline reaches: those that the clauses of `scfs` (crates/scfs_top/src/call.rt) name, those that
 these name, and so on, through the `use` lines of the files of specs/. Prints how many definitions, files and lines these are, and with
 the word `files` the lines of each file. Types that the code declares (specs.declared) and the kit's definitions are not followed. A
 name is followed wherever it stands, also where a variable has it. Run it from any folder."""
@@ -45,7 +45,7 @@ def definitions(text):
 
 
 def main():
-    call = (CRATES / "scfs_cli" / "src" / "call.rt").read_text()
+    call = (CRATES / "scfs_top" / "src" / "call.rt").read_text()
     names, _ = imports(call)
     clauses = re.search(r"pub fn scfs<.*?\n\{", call, re.S).group(0)
     waiting = [names[word] for word in WORD.findall(clauses) if word in names]

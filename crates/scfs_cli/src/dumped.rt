@@ -1,6 +1,6 @@
-use crate::closing::Status;
 use crate::rows::{BEGIN, CLOSE, PAIR};
 use crate::tests::{HEADER, REPLAY, Run, expect};
+use scfs_top::Status;
 use std::test::Fail;
 
 // Dumps. The roots and digests were worked out by another implementation of the sealed unit.

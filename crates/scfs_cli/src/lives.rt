@@ -1,6 +1,6 @@
-use crate::closing::Status;
 use crate::rows::PAIR;
 use crate::tests::{REPLAY, Run, expect};
+use scfs_top::Status;
 use std::process::Abort;
 use std::test::Fail;
 

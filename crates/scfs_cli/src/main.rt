@@ -4,44 +4,31 @@
 
 #[cfg(test)]
 mod alone;
-mod built;
-mod call;
-mod closing;
-mod command;
-mod dump;
 #[cfg(test)]
 mod dumped;
-mod edges;
-mod intake;
 mod journal;
 #[cfg(test)]
 mod journaled;
-mod limits;
 #[cfg(test)]
 mod lives;
 #[cfg(test)]
 mod malformed;
-mod play;
+#[cfg(test)]
+mod old_journals;
 #[cfg(test)]
 mod rows;
-mod run;
 #[cfg(test)]
 mod scripted;
 #[cfg(test)]
 mod stopped;
-mod stopping;
 mod streams;
 #[cfg(test)]
 mod tests;
-mod tree_rows;
-mod waiting;
 
-use call::scfs;
-use closing::Status;
 use journal::{JournalIn, JournalOut};
-use limits::EVENTS_LIMIT;
 use scfs_cloud::DirCloud;
 use scfs_policy::{RankFacts, RankRule};
+use scfs_top::{Status, scfs};
 use std::process::ExitCode;
 use std::{env, io};
 use streams::{Incoming, Outgoing};

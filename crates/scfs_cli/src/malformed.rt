@@ -1,7 +1,7 @@
 //! Lines and headers that are not allowed, each with its kind and its line, and the limits of a text.
 
-use crate::closing::Status;
 use crate::tests::{HEADER, REPLAY, Run, outcome};
+use scfs_top::Status;
 use std::alloc::Global;
 use std::process::Abort;
 use std::test::Fail;

@@ -1,5 +1,5 @@
-use crate::closing::Status;
 use crate::tests::{REPLAY, Run, expect};
+use scfs_top::Status;
 use std::test::Fail;
 
 // Runs of several agents over four or ten clouds. What they write was worked out by another implementation.

@@ -1,10 +1,9 @@
-use crate::call::scfs;
-use crate::closing::Status;
 use crate::rows::BEGUN;
 use crate::tests::{HEADER, REPLAY, Run, expect, one, truthful};
 use scfs_base::{Bytes, MemSink, MemSource, Memory};
 use scfs_cloud::{Cloud, SaidCloud};
 use scfs_policy::{RankFacts, RankRule};
+use scfs_top::{Status, scfs};
 use std::alloc::Global;
 use std::process::Abort;
 use std::test::Fail;

@@ -1,7 +1,7 @@
-use crate::closing::Status;
 use crate::scripted::{Ended, Failing, SCRIPT, run_script, schedule_in, script};
 use crate::tests::{REPLAY, Run, outcome};
 use scfs_base::Bytes;
+use scfs_top::Status;
 use std::alloc::Global;
 use std::process::Abort;
 use std::test::Fail;

@@ -1,9 +1,8 @@
-use crate::call::scfs;
-use crate::closing::Status;
 use crate::malformed::repeated;
 use scfs_base::{Bytes, MemSink, MemSource, Memory};
 use scfs_cloud::MemCloud;
 use scfs_policy::{RankFacts, RankRule};
+use scfs_top::{Status, scfs};
 use std::alloc::Global;
 use std::process::Abort;
 use std::test::Fail;

@@ -10,8 +10,6 @@ mod going_on;
 mod hearing;
 mod laws;
 mod limits;
-#[cfg(test)]
-mod old_journals;
 mod pieces;
 mod recording;
 mod reopening;
