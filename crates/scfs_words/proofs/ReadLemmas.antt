@@ -4,11 +4,14 @@ use Rattle.std.specs.Prelude.{option_and_then, if◌then◌else◌, Box}
 use Rattle.std.specs.Str.{bytes_eq}
 use Rattle.std.proofs.lemmas.Slice.Eq.{bytes_eq-Decides}
 use Rattle.clap.specs.Walk.{Row, Text}
-use Rattle.clap.specs.Words.{HasMatchesOf, subcommand_name_of, subcommand_of, subcommand_rows_of, takes}
+use Rattle.clap.proofs.OnLiterals.{clap_on_literals}
+use Rattle.clap.specs.Words.{App, HasMatchesOf, is_simple, subcommand_name_of, subcommand_of, subcommand_rows_of, takes}
 use Rattle.clap.specs.Simple.{subcommand_rows}
-use Rattle.clap.specs.Matches.{subcommand_name_of as name_of}
+use Rattle.std.proofs.Common.{Global, arith, length, map}
+use Rattle.std.specs.Box.{box_value}
+use Rattle.clap.specs.declared.parser.matches.SubCommand.{SubCommand}
 use Rattle.clap.specs.declared.parser.matches.ArgMatches.{ArgMatches}
-use Rattle.clap.specs.declared.parser.matches.ArgMatches.TheViews.{out-ArgMatches}
+use Rattle.clap.specs.declared.parser.matches.ArgMatches.TheViews.{out-ArgMatches, out-SubCommand}
 use Rattle.scfs_words.specs.Command.{command_of, named}
 use Rattle.scfs_words.specs.Program.{program}
 use Rattle.scfs_words.specs.declared.Command.{Command}
@@ -44,3 +47,34 @@ one_word word = first (bytes_eq word (codes "replay")) (bytes_eq word (codes "du
     first false false false p q r =
         let none : named word ≡ None = choose _ _ _ _ _ _ p q r in
         (ap command_in (stray word (swapped _ _ p) (swapped _ _ q) (swapped _ _ r)) ∙ sym none, inr none)
+
+named_so : (entered : Option (Box SubCommand Global)) → option_and_then named (option_map (λ b. (out-SubCommand (box_value b)).name.now) entered) ≡ command_in (subcommand_rows entered)
+named_so None = refl
+named_so (Some b) = refl
+
+program_simple : is_simple program ≡ true
+unfolding clap_on_literals
+program_simple = refl
+
+module _ {A : Type 0} (text : A → Text) (made : App) (is_program : made ≡ program) where
+  pub reads_one : (words : List A) (m : ArgMatches) → length words ≡ 1 → HasMatchesOf made (map text words) m
+      → option_and_then named (subcommand_name_of m) ≡ command_of (map text words)
+  reads_one (word ∷ []) m one has =
+      let rows : subcommand_rows_of m ≡ subcommand_of program (text word ∷ []) =
+        (subst (λ (a : App). HasMatchesOf a (text word ∷ []) m) is_program has program_simple).1 in
+      named_so (out-ArgMatches m).subcommand ∙ ap command_in rows ∙ (one_word (text word)).0
+  reads_one [] m one has = absurd (omega arith)
+  reads_one (word ∷ next ∷ rest) m one has = absurd (omega arith)
+
+  pub reads_none : (words : List A) → (takes made (map text words) ≡ true → ⊥) → command_of (map text words) ≡ None
+  reads_none [] refuses = refl
+  reads_none (word ∷ []) refuses = elim (one_word (text word)).1 [
+    | inl took ↦ absurd (refuses (subst (λ (a : App). takes a (text word ∷ []) ≡ true) (sym is_program) took))
+    | inr none ↦ none
+  ]
+  reads_none (word ∷ next ∷ rest) refuses = refl
+
+  pub reads_not_one : (words : List A) → (length words ≡ 1 → ⊥) → command_of (map text words) ≡ None
+  reads_not_one [] several = refl
+  reads_not_one (word ∷ []) several = absurd (several refl)
+  reads_not_one (word ∷ next ∷ rest) several = refl

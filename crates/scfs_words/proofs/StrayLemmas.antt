@@ -49,4 +49,4 @@ stops_nowhere names word none = subst (λ (o : Option Text). Stays word (subcomm
 
 pub stray : (word : Text) → bytes_eq (codes "replay") word ≡ false → bytes_eq (codes "dump") word ≡ false → bytes_eq (codes "run") word ≡ false → subcommand_of program (word ∷ []) ≡ None
 unfolding name_list
-stray word p q r = ap (entered (built program)) (stops_nowhere (name_list (codes "replay") (codes "dump") (codes "run")) word (none_met _ _ _ word p q r))
+stray word p q r = ap (entered (built program)) (stops_nowhere (name_list (codes "replay") (codes "dump") (codes "run")) word (none_met (codes "replay") (codes "dump") (codes "run") word p q r))

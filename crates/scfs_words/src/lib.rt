@@ -1,11 +1,12 @@
 //! The words of the command line, read by `clap`.
 #![tactic(auto)]
 
-ghost use Rattle.std.specs.Prelude.{◌≡◌, IfErr, IfOk, map, string_bytes, option_and_then, false, true};
-ghost use Rattle.clap.specs.Words.{HasMatchesOf, app_of, kind_of, subcommand_name_of, takes};
+ghost use Rattle.std.specs.Prelude.{◌≡◌, IfOk, map, option_and_then, string_bytes};
+ghost use Rattle.clap.specs.Words.{app_of, subcommand_name_of};
 ghost use Rattle.scfs_words.specs.Command.{command_of, named};
 ghost use Rattle.scfs_words.specs.Program.{program};
 
+use clap::ArgMatches;
 use clap::error::ErrorKind;
 use scfs_base::Memory;
 use std::alloc::{AllocError, Global};
@@ -44,13 +45,20 @@ fn named(word: &str) -> Option<Command>
     }
 }
 
+/// The command whose subcommand was entered, if one was.
+fn chosen(matches: &ArgMatches) -> Option<Command>
+    ensures { result ≡ option_and_then named (subcommand_name_of matches.now) }
+{
+    named(matches.subcommand_name()?)
+}
+
 /// The command that the words are, if they are one: its name alone.
 pub fn command_of(alloc: Global, words: &[String]) -> Result<Option<Command>, Memory>
     ensures { IfOk result (λ command. command ≡ command_of (map string_bytes words.now)) }
 {
     match program(alloc)?.try_get_matches_from(words) {
         // `clap` takes a `--` behind a name, where options would end.
-        Ok(matches) if words.len() == 1 => Ok(matches.subcommand_name().and_then(named)),
+        Ok(matches) if words.len() == 1 => Ok(chosen(&matches)),
         Ok(_) => Ok(None),
         Err(error) => match error.kind() {
             ErrorKind::OutOfMemory => Err(Memory),
