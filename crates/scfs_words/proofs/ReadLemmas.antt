@@ -41,12 +41,12 @@ pub one_word : (word : Text) → Reads word
 one_word word = first (bytes_eq word (codes "replay")) (bytes_eq word (codes "dump")) (bytes_eq word (codes "run")) refl refl refl
   where
     first : (a b c : Bool) → bytes_eq word (codes "replay") ≡ a → bytes_eq word (codes "dump") ≡ b → bytes_eq word (codes "run") ≡ c → Reads word
-    first true b c p q r = subst Reads (sym ((bytes_eq-Decides _ _).0 p)) (ap command_in replay_met, inl replay_taken)
-    first false true c p q r = subst Reads (sym ((bytes_eq-Decides _ _).0 q)) (ap command_in dump_met, inl dump_taken)
-    first false false true p q r = subst Reads (sym ((bytes_eq-Decides _ _).0 r)) (ap command_in run_met, inl run_taken)
+    first true b c p q r = subst Reads (sym ((bytes_eq-Decides word (codes "replay")).0 p)) (ap command_in replay_met, inl replay_taken)
+    first false true c p q r = subst Reads (sym ((bytes_eq-Decides word (codes "dump")).0 q)) (ap command_in dump_met, inl dump_taken)
+    first false false true p q r = subst Reads (sym ((bytes_eq-Decides word (codes "run")).0 r)) (ap command_in run_met, inl run_taken)
     first false false false p q r =
-        let none : named word ≡ None = choose _ _ _ _ _ _ p q r in
-        (ap command_in (stray word (swapped _ _ p) (swapped _ _ q) (swapped _ _ r)) ∙ sym none, inr none)
+        let none : named word ≡ None = choose (bytes_eq word (codes "replay")) (bytes_eq word (codes "dump")) (bytes_eq word (codes "run")) (named (codes "replay")) (named (codes "dump")) (named (codes "run")) p q r in
+        (ap command_in (stray word (swapped word (codes "replay") p) (swapped word (codes "dump") q) (swapped word (codes "run") r)) ∙ sym none, inr none)
 
 named_so : (entered : Option (Box SubCommand Global)) → option_and_then named (option_map (λ b. (out-SubCommand (box_value b)).name.now) entered) ≡ command_in (subcommand_rows entered)
 named_so None = refl
