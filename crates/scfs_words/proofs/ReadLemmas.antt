@@ -61,7 +61,7 @@ module _ {A : Type 0} (text : A → Text) (made : App) (is_program : made ≡ pr
       → option_and_then named (subcommand_name_of m) ≡ command_of (map text words)
   reads_one (word ∷ []) m one has =
       let rows : subcommand_rows_of m ≡ subcommand_of program (text word ∷ []) =
-        (subst (λ (a : App). HasMatchesOf a (text word ∷ []) m) is_program has program_simple).1 in
+      (subst (λ (a : App). HasMatchesOf a (text word ∷ []) m) is_program has program_simple).1 in
       named_so (out-ArgMatches m).subcommand ∙ ap command_in rows ∙ (one_word (text word)).0
   reads_one [] m one has = absurd (omega arith)
   reads_one (word ∷ next ∷ rest) m one has = absurd (omega arith)
