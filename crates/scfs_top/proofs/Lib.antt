@@ -19,3 +19,4 @@ pub mod ScriptEvents
 pub mod ScriptLemmas
 pub mod TurnLemmas
 pub mod UnderwayLemmas
+pub mod UnreadLemmas

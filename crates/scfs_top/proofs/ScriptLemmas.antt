@@ -24,7 +24,7 @@ use Rattle.scfs_top.specs.Underway.{ReachesOn, Reached, ScriptSoFar, with_events
 use Rattle.scfs_top.proofs.EdgeLemmas.{takes_nothing, takes_then}
 use Rattle.scfs_top.proofs.ScriptEvents.{of_script}
 
-nothing_kept : KeepsToHeader []
+pub nothing_kept : KeepsToHeader []
 nothing_kept = record { split = record { early = []; piece = []; whole = refl; few = omega arith; goes_on = (1, refl) }; none = refl }
 
 pieces_kept : (reader : Reading) (more : List ℕ) → reader ≡ unread true → InPieces reader more → KeepsToHeader more

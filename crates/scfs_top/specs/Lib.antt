@@ -1,5 +1,4 @@
 pub mod Closing
-pub mod Command
 pub mod Dump
 pub mod Dumping
 pub mod Edges

@@ -2,15 +2,14 @@ ghost use Rattle.std.specs.Prelude.{◌≡◌, ◌≢◌, ◌≤◌, ◌⊎◌, 
 ghost use Rattle.scfs_base.specs.Outside.{Rose};
 ghost use Rattle.scfs_policy.specs.Rank.{IsRankRule};
 ghost use Rattle.scfs_live.specs.Asked.{told};
-ghost use Rattle.scfs_top.specs.Command.{command_of};
 ghost use Rattle.scfs_top.specs.Dumping.{DumpsInput};
 ghost use Rattle.scfs_top.specs.Headline.{Closes, ClosesWith, ReplaysInput};
 ghost use Rattle.scfs_top.specs.Outer.{sink, source};
 ghost use Rattle.scfs_top.specs.Running.{ClosesRun, RunsScript, writing_failed};
-ghost use Rattle.scfs_top.specs.declared.command.Command.TheVariants as commands;
+ghost use Rattle.scfs_words.specs.Command.{command_of};
+ghost use Rattle.scfs_words.specs.declared.Command.TheVariants as commands;
 
 use crate::closing::{LastLine, Status, closing_line};
-use crate::command::{Command, command_of};
 use crate::dump::output;
 use crate::edges::write_all;
 use crate::nowhere::Nowhere;
@@ -21,6 +20,7 @@ use scfs_base::{Failed, Memory, Sink, Source};
 use scfs_cloud::Cloud;
 use scfs_laws::{layers_agree, sound_without_clash};
 use scfs_policy::{RankFacts, RankRule};
+use scfs_words::{Command, command_of};
 use std::alloc::Global;
 
 /// Writes a text that ends with the last line, and gives that line's status.
@@ -173,10 +173,11 @@ pub fn scfs<I: Source, L: Source, O: Sink, J: Sink, C: Cloud, R: Fn(RankFacts) -
     ensures write_fault { result ≡ Status.WriteFault → Rose (O.faults out.old) (O.faults out.new)
         ⊎ ((command_of (map string_bytes words.now) ≡ Some commands.Run) × Rose (J.faults journal.old) (J.faults journal.new)) }
 {
-    match command_of(words) {
-        Some(Command::Replay) => replay(alloc, input, rank, out),
-        Some(Command::Dump) => dump(alloc, input, rank, out),
-        Some(Command::Run) => run_script(alloc, input, old, out, journal, clouds, rank),
-        None => close(alloc, LastLine::Usage, out),
+    match command_of(alloc, words) {
+        Ok(Some(Command::Replay)) => replay(alloc, input, rank, out),
+        Ok(Some(Command::Dump)) => dump(alloc, input, rank, out),
+        Ok(Some(Command::Run)) => run_script(alloc, input, old, out, journal, clouds, rank),
+        Ok(None) => close(alloc, LastLine::Usage, out),
+        Err(Memory) => Status::Memory,
     }
 }

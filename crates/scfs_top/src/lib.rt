@@ -4,7 +4,6 @@
 mod built;
 mod call;
 mod closing;
-mod command;
 mod dump;
 mod edges;
 mod intake;
