@@ -6,7 +6,7 @@ pub returns-in-Ok : goal.returns-in-Ok
 returns-in-Ok c = c.chosen.ensures ∙ reads_one string_bytes _ c.in_ok-program.ensures c.args.words.now c.in-Ok.matches (search rules) c.in-Ok.ensures.matches
 
 pub returns-in-Ok-2 : goal.returns-in-Ok-2
-returns-in-Ok-2 c = sym (reads_not_one string_bytes _ c.in_ok-program.ensures c.args.words.now (λ one. c.if-words-eq1.false one))
+returns-in-Ok-2 c = sym (reads_not_one string_bytes _ c.in_ok-program.ensures c.args.words.now (search rules))
 
 pub returns : goal.returns
 returns c = sym (reads_none string_bytes _ c.in_ok-program.ensures c.args.words.now (λ took.
