@@ -1,0 +1,4 @@
+pub mod Calls
+pub mod Leaving
+pub mod Again
+pub mod Behind
