@@ -22,7 +22,7 @@ use Rattle.scfs_top.specs.Playing.{Playing, finished}
 use Rattle.scfs_top.specs.Running.{ClosesRun, EndsDriving, EndsInHeader}
 use Rattle.scfs_top.specs.Scripting.{script_of}
 use Rattle.scfs_again.specs.Again.{CallsGoOn, EndsEarlier, GoesOn, IsNoRefusal}
-use Rattle.scfs_again.specs.Calls.{Call, Comes, Course, Keeps, course_by, course_in_old, course_of}
+use Rattle.scfs_again.specs.Calls.{Call, Comes, Course, Meets, course_by, course_in_old, course_of}
 use Rattle.scfs_again.proofs.WroteLemmas.{took_all}
 
 same_header : (o : Option Header) (h header : Header) → o ≡ Some h → o ≡ Some header → h ≡ header
@@ -135,11 +135,11 @@ module _ (allows : RankFacts → ℕ → Type 0) (header : Header) (past : Histo
   accepted_by end (inr (inr on)) = accepted_on on.header (script_of taken) on.new on.place.past end on.ends
 
 pub calls_go_on : (allows : RankFacts → ℕ → Type 0) → CallsGoOn allows
-calls_go_on allows header past text call keeps left reads stated =
-    let taken = keeps.runs.taken in
-    let comes = keeps.runs.comes in
+calls_go_on allows header past text call meets left reads stated =
+    let taken = meets.runs.taken in
+    let comes = meets.runs.comes in
     record {
-      goes = λ course has. again_by allows header past text left call reads taken stated keeps.shown keeps.end comes course has;
-      earlier = λ none. earlier_by allows header past text left call reads taken stated keeps.shown keeps.end comes keeps.closes none;
-      accepted = accepted_by allows header past text left call reads taken stated keeps.shown keeps.end comes;
+      goes = λ course has. again_by allows header past text left call reads taken stated meets.shown meets.end comes course has;
+      earlier = λ none. earlier_by allows header past text left call reads taken stated meets.shown meets.end comes meets.closes none;
+      accepted = accepted_by allows header past text left call reads taken stated meets.shown meets.end comes;
     }

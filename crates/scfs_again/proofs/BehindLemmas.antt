@@ -29,15 +29,15 @@ use Rattle.scfs_top.specs.Running.{ClosesBy, ClosesRun, EndsDriving}
 use Rattle.scfs_top.specs.Scripting.{script_of}
 use Rattle.scfs_again.specs.Again.{EndsEarlier, GoesOn}
 use Rattle.scfs_again.specs.Behind.{ComesBehind, IsCutShort, OneRuleGoesOn, SecondCallsGoOn}
-use Rattle.scfs_again.specs.Calls.{Call, Comes, Course, HasRun, Keeps, course_by, course_in_old, course_of, history}
+use Rattle.scfs_again.specs.Calls.{Call, Comes, Course, HasRun, Meets, course_by, course_in_old, course_of, history}
 use Rattle.scfs_again.proofs.AgainLemmas.{calls_go_on}
 use Rattle.scfs_again.proofs.LeavesLemmas.{calls_leave}
 use Rattle.scfs_again.proofs.WholeLemmas.{none_missing}
 
-module _ (allows later : RankFacts → ℕ → Type 0) (first second : Call) (keeps : Keeps allows first) (again : Keeps later second) (course : Course) (text : List ℕ)
-    (behind : ComesBehind allows later first second keeps again course text) where
+module _ (allows later : RankFacts → ℕ → Type 0) (first second : Call) (meets : Meets allows first) (again : Meets later second) (course : Course) (text : List ℕ)
+    (behind : ComesBehind allows later first second meets again course text) where
   left_first : IsLeftOf course.header (history course) text
-  left_first = (calls_leave allows).left first keeps course text behind.ran behind.said behind.leaves
+  left_first = (calls_leave allows).left first meets course text behind.ran behind.said behind.leaves
 
   goes_second : GoesOn later course.header (history course) text second again
   goes_second = calls_go_on later course.header (history course) text second again left_first behind.reads behind.header
@@ -45,13 +45,13 @@ module _ (allows later : RankFacts → ℕ → Type 0) (first second : Call) (ke
   whole_second : behind.leaves.lost ≡ [] → first.status ≢ statuses.WriteFault → (next : Course)
       → (goes : GoesAgain course.header (history course) (whole_lines text) next.place) → goes.whole ≡ history course
   whole_second lost other next goes =
-      none_missing course.header (history course) text next.place ((calls_leave allows).whole first keeps course text behind.ran behind.leaves lost other) goes
+      none_missing course.header (history course) text next.place ((calls_leave allows).whole first meets course text behind.ran behind.leaves lost other) goes
 
 pub second_calls_go_on : (allows later : RankFacts → ℕ → Type 0) → SecondCallsGoOn allows later
 second_calls_go_on allows later = record {
-  goes_on = λ first second keeps again course text behind. goes_second allows later first second keeps again course text behind;
-  whole = λ first second keeps again course next text behind lost other has goes.
-      whole_second allows later first second keeps again course text behind lost other next goes;
+  goes_on = λ first second meets again course text behind. goes_second allows later first second meets again course text behind;
+  whole = λ first second meets again course next text behind lost other has goes.
+      whole_second allows later first second meets again course text behind lost other next goes;
 }
 
 -- the history of a call was played
@@ -125,16 +125,16 @@ differing (runs.Finished count finish filled) before after closes = absurd (fini
 differing (runs.Stopped (lives.Differs number kept made)) before after closes = (number, kept, made, refl)
 differing (runs.Stopped why) before after closes = let is = closes.1 in cc
 
-module _ (allows : RankFacts → ℕ → Type 0) (one : HasOneAnswer allows) (first second : Call) (keeps : Keeps allows first) (again : Keeps allows second) (course : Course)
-    (text : List ℕ) (behind : ComesBehind allows allows first second keeps again course text) where
+module _ (allows : RankFacts → ℕ → Type 0) (one : HasOneAnswer allows) (first second : Call) (meets : Meets allows first) (again : Meets allows second) (course : Course)
+    (text : List ℕ) (behind : ComesBehind allows allows first second meets again course text) where
   abbrev past : History
   past = history course
 
   plays : IsPlayed allows course.header past
-  plays = (played_by allows first keeps.runs.taken keeps.shown keeps.end keeps.runs.comes course behind.ran).0
+  plays = (played_by allows first meets.runs.taken meets.shown meets.end meets.runs.comes course behind.ran).0
 
   goes : GoesOn allows course.header past text second again
-  goes = goes_second allows allows first second keeps again course text behind
+  goes = goes_second allows allows first second meets again course text behind
 
   entries : (next : Course) → HasRun allows second again next → (g : GoesAgain course.header past (whole_lines text) next.place) → next.place.past ≡ g.whole
   entries next has g =
@@ -163,8 +163,8 @@ module _ (allows : RankFacts → ℕ → Type 0) (one : HasOneAnswer allows) (fi
 
 pub one_rule_goes_on : (allows : RankFacts → ℕ → Type 0) → OneRuleGoesOn allows
 one_rule_goes_on allows = record {
-  entries = λ first second keeps again course next text one behind has g. entries allows one first second keeps again course text behind next has g;
-  earlier = λ first second keeps again course text one behind none.
-      cut_short allows one first second keeps again course text behind again.end ((goes allows one first second keeps again course text behind).earlier none);
-  differs = λ first second keeps again course text one behind. never_differs allows one first second keeps again course text behind;
+  entries = λ first second meets again course next text one behind has g. entries allows one first second meets again course text behind next has g;
+  earlier = λ first second meets again course text one behind none.
+      cut_short allows one first second meets again course text behind again.end ((goes allows one first second meets again course text behind).earlier none);
+  differs = λ first second meets again course text one behind. never_differs allows one first second meets again course text behind;
 }

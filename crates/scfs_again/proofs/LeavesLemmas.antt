@@ -30,7 +30,7 @@ use Rattle.scfs_top.specs.declared.stopping.RunEnd.TheVariants as runs
 use Rattle.scfs_top.specs.Outer.{SinkView}
 use Rattle.scfs_top.specs.Running.{ClosesRun, RunsOn, StopsReopening}
 use Rattle.scfs_top.specs.Scripting.{script_of}
-use Rattle.scfs_again.specs.Calls.{Call, Comes, Course, HasRun, Keeps, course_by, course_in_old, course_of, history}
+use Rattle.scfs_again.specs.Calls.{Call, Comes, Course, HasRun, Meets, course_by, course_in_old, course_of, history}
 use Rattle.scfs_again.specs.Leaving.{CallsLeaveJournals, Leaves, SaidBytes}
 use Rattle.scfs_again.proofs.GivenLemmas.{script_given}
 use Rattle.scfs_again.proofs.HeaderLemmas.{header_of_script}
@@ -195,10 +195,10 @@ did_not_fail end before after status closes other is =
 
 pub calls_leave : (allows : RankFacts → ℕ → Type 0) → CallsLeaveJournals allows
 calls_leave allows = record {
-  nothing = λ call keeps none. nothing_by allows call keeps.runs.taken keeps.shown keeps.end keeps.runs.comes none;
-  left = λ call keeps course text has said leaves.
-      left_of allows call keeps.end course (ran_by allows call keeps.runs.taken keeps.shown keeps.end keeps.runs.comes course has) text leaves said;
-  whole = λ call keeps course text has leaves lost other.
-      whole_of allows call keeps.end course (ran_by allows call keeps.runs.taken keeps.shown keeps.end keeps.runs.comes course has) text leaves lost
-      (did_not_fail keeps.end keeps.shown.written call.shown call.status keeps.closes other);
+  nothing = λ call meets none. nothing_by allows call meets.runs.taken meets.shown meets.end meets.runs.comes none;
+  left = λ call meets course text has said leaves.
+      left_of allows call meets.end course (ran_by allows call meets.runs.taken meets.shown meets.end meets.runs.comes course has) text leaves said;
+  whole = λ call meets course text has leaves lost other.
+      whole_of allows call meets.end course (ran_by allows call meets.runs.taken meets.shown meets.end meets.runs.comes course has) text leaves lost
+      (did_not_fail meets.end meets.shown.written call.shown call.status meets.closes other);
 }

@@ -12,7 +12,7 @@ use Rattle.scfs_top.specs.declared.stopping.RunEnd.{RunEnd}
 use Rattle.scfs_top.specs.declared.stopping.RunEnd.TheVariants as runs
 use Rattle.scfs_top.specs.Headline.{Closes}
 use Rattle.scfs_top.specs.Scripting.{script_of}
-use Rattle.scfs_again.specs.Calls.{Call, Course, HasRun, Keeps, course_of}
+use Rattle.scfs_again.specs.Calls.{Call, Course, HasRun, Meets, course_of}
 
 -- How a call ends that does not come to the end of what was left: reading that failed, or memory was wanting; or, where the rank rule
 -- answers otherwise than before, a line differs, the first that does, and out got its number with both texts and nothing else; or then the next
@@ -37,14 +37,14 @@ IsNoRefusal other = Unit {0}
 
 -- A call goes on over what is left of a history's journal: it reads all of that, under the history's header, and runs again exactly the events
 -- whose lines are whole; the kept lines are those that it makes. Or it ends earlier.
-pub record GoesOn (allows : RankFacts → ℕ → Type 0) (header : Header) (past : History) (text : List ℕ) (call : Call) (keeps : Keeps allows call) : Type 0 where
+pub record GoesOn (allows : RankFacts → ℕ → Type 0) (header : Header) (past : History) (text : List ℕ) (call : Call) (meets : Meets allows call) : Type 0 where
   pub goes :
-      (course : Course) → HasRun allows call keeps course → (course.header ≡ header) × GoesAgain header past (whole_lines text) course.place
-  pub earlier : course_of allows call keeps ≡ None → EndsEarlier allows header past text call keeps.end
-  pub accepted : IsNoRefusal keeps.end
+      (course : Course) → HasRun allows call meets course → (course.header ≡ header) × GoesAgain header past (whole_lines text) course.place
+  pub earlier : course_of allows call meets ≡ None → EndsEarlier allows header past text call meets.end
+  pub accepted : IsNoRefusal meets.end
 
 -- so does each whose script says that header
 abbrev pub CallsGoOn : (allows : RankFacts → ℕ → Type 0) → Type 0
 CallsGoOn allows =
-    (header : Header) (past : History) (text : List ℕ) (call : Call) (keeps : Keeps allows call) → IsLeftOf header past text
-    → call.old.left ≡ Some text → (script_of keeps.runs.taken).header ≡ Some header → GoesOn allows header past text call keeps
+    (header : Header) (past : History) (text : List ℕ) (call : Call) (meets : Meets allows call) → IsLeftOf header past text
+    → call.old.left ≡ Some text → (script_of meets.runs.taken).header ≡ Some header → GoesOn allows header past text call meets

@@ -29,9 +29,9 @@ pub record Call : Type 0 where
   pub clouds' : List Told
   pub status : Status
 
--- it did what the contract of `scfs` promises of the word `run`, where the rank rule may answer so
-abbrev pub Keeps : (allows : RankFacts → ℕ → Type 0) → Call → Type 0
-Keeps allows call =
+-- it met the contract of `scfs` for the word `run` (its clause `runs`), where the rank rule may answer so
+abbrev pub Meets : (allows : RankFacts → ℕ → Type 0) → Call → Type 0
+Meets allows call =
     RunsScript allows call.input call.input' call.old call.old' call.out call.shown call.journal call.journal' call.clouds call.clouds' call.status
 
 -- how it ended: at the script's header, in running the old journal again, or behind that
@@ -66,9 +66,9 @@ course_by allows call taken shown end (inr (inl in_old)) =
 course_by allows call taken shown end (inr (inr on)) = Some (record { header = on.header; place = on.place; new = on.new })
 
 -- what a call has run that read its old journal to its end; the others have run nothing to its end
-abbrev pub course_of : (allows : RankFacts → ℕ → Type 0) (call : Call) → Keeps allows call → Option Course
-course_of allows call keeps = course_by allows call keeps.runs.taken keeps.shown keeps.end keeps.runs.comes
+abbrev pub course_of : (allows : RankFacts → ℕ → Type 0) (call : Call) → Meets allows call → Option Course
+course_of allows call meets = course_by allows call meets.runs.taken meets.shown meets.end meets.runs.comes
 
 -- a call that read its old journal to its end, with what it has run
-abbrev pub HasRun : (allows : RankFacts → ℕ → Type 0) (call : Call) → Keeps allows call → Course → Type 0
-HasRun allows call keeps course = course_of allows call keeps ≡ Some course
+abbrev pub HasRun : (allows : RankFacts → ℕ → Type 0) (call : Call) → Meets allows call → Course → Type 0
+HasRun allows call meets course = course_of allows call meets ≡ Some course

@@ -9,7 +9,7 @@ use Rattle.scfs_live.specs.Reopened.{old_lines}
 use Rattle.scfs_live.specs.RunAgain.{IsLeftOf}
 use Rattle.scfs_live.specs.Stopped.{SaysBytes}
 use Rattle.scfs_top.specs.declared.closing.Status.TheVariants as statuses
-use Rattle.scfs_again.specs.Calls.{Call, Course, HasRun, Keeps, course_of, history}
+use Rattle.scfs_again.specs.Calls.{Call, Course, HasRun, Meets, course_of, history}
 
 -- The bytes that an old journal has behind a call, where the call's old journal and its journal tell theirs: those that it had, and then those
 -- that the call wrote, or the first of them where the others are lost. They keep the limits of an old journal and of a line.
@@ -32,10 +32,10 @@ SaidBytes course = Each (λ (e : Entry). SaysBytes e.event) course.new
 -- another status than that of a failed write, and nothing lost, it has all lines of that journal.
 pub record CallsLeaveJournals (allows : RankFacts → ℕ → Type 0) : Type 0 where
   pub nothing :
-      (call : Call) (keeps : Keeps allows call) → course_of allows call keeps ≡ None → call.journal'.written ≡ call.journal.written
+      (call : Call) (meets : Meets allows call) → course_of allows call meets ≡ None → call.journal'.written ≡ call.journal.written
   pub left :
-      (call : Call) (keeps : Keeps allows call) (course : Course) (text : List ℕ) → HasRun allows call keeps course → SaidBytes course → Leaves call text
+      (call : Call) (meets : Meets allows call) (course : Course) (text : List ℕ) → HasRun allows call meets course → SaidBytes course → Leaves call text
       → IsLeftOf course.header (history course) text
   pub whole :
-      (call : Call) (keeps : Keeps allows call) (course : Course) (text : List ℕ) → HasRun allows call keeps course → (leaves : Leaves call text)
+      (call : Call) (meets : Meets allows call) (course : Course) (text : List ℕ) → HasRun allows call meets course → (leaves : Leaves call text)
       → leaves.lost ≡ [] → call.status ≢ statuses.WriteFault → kept_lines (whole_lines text) ≡ journal_lines course.header (history course)
