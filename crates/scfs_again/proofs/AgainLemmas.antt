@@ -1,5 +1,5 @@
 -- A call over what is left of a journal.
-use Rattle.std.proofs.Common.{◌≡◌, ℕ, List, ◌++◌, refl, ap, ◌∙◌, sym, subst, Option, Some, None, inl, inr}
+use Rattle.std.proofs.Common.{◌≡◌, ℕ, List, [], refl, ap, ◌∙◌, sym, subst, Option, Some, None, inl, inr}
 use Rattle.scfs_policy.specs.declared.rank.RankFacts.{RankFacts}
 use Rattle.scfs_schedule.specs.declared.types.Header.{Header}
 use Rattle.scfs_schedule.specs.declared.types.Which.TheVariants as whichs
@@ -21,8 +21,8 @@ use Rattle.scfs_top.specs.Outer.{SinkView}
 use Rattle.scfs_top.specs.Playing.{Playing, finished}
 use Rattle.scfs_top.specs.Running.{ClosesRun, EndsDriving, EndsInHeader}
 use Rattle.scfs_top.specs.Scripting.{script_of}
-use Rattle.scfs_again.specs.Again.{CallsGoOn, EndsEarlier, GoesOn, IsNoRefusal}
-use Rattle.scfs_again.specs.Calls.{Call, Comes, Course, Meets, course_by, course_in_old, course_of}
+use Rattle.scfs_again.specs.Again.{CallsGoOn, EndsEarlier, IsNoRefusal}
+use Rattle.scfs_again.specs.Calls.{Call, Comes, Course, course_by, course_in_old}
 use Rattle.scfs_again.proofs.WroteLemmas.{took_all}
 
 same_header : (o : Option Header) (h header : Header) → o ≡ Some h → o ≡ Some header → h ≡ header

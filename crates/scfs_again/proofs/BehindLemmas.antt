@@ -1,5 +1,5 @@
 -- Two calls, the second over what the first left.
-use Rattle.std.proofs.Common.{◌≡◌, ◌≢◌, ℕ, List, [], ◌++◌, refl, sym, subst, ◌∙◌, Option, Some, None, inl, inr}
+use Rattle.std.proofs.Common.{◌≡◌, ◌≢◌, ℕ, List, [], refl, subst, Option, Some, None, inl, inr}
 use Rattle.scfs_policy.specs.declared.rank.RankFacts.{RankFacts}
 use Rattle.scfs_schedule.specs.declared.types.BadKind.{BadKind}
 use Rattle.scfs_schedule.specs.declared.types.BadKind.TheVariants as kinds
@@ -19,7 +19,6 @@ use Rattle.scfs_top.specs.declared.closing.Filled.{Filled}
 use Rattle.scfs_top.specs.declared.closing.Filled.TheVariants as filleds
 use Rattle.scfs_top.specs.declared.closing.Finish.{Finish}
 use Rattle.scfs_top.specs.declared.closing.Finish.TheVariants as finishes
-use Rattle.scfs_top.specs.declared.closing.Status.{Status}
 use Rattle.scfs_top.specs.declared.closing.Status.TheVariants as statuses
 use Rattle.scfs_top.specs.declared.stopping.RunEnd.{RunEnd}
 use Rattle.scfs_top.specs.declared.stopping.RunEnd.TheVariants as runs

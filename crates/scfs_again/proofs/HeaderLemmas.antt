@@ -1,5 +1,5 @@
 -- The header that a script says has the values that a header's lines allow.
-use Rattle.std.proofs.Common.{◌≡◌, ◌≤◌, ◌<◌, ℕ, ◌+◌, List, [], ◌∷◌, ◌++◌, refl, subst, Bool, true, false, ◌&&◌, not, cond, Option, Some, None, Result, Ok, Err, arith, length, length-append}
+use Rattle.std.proofs.Common.{◌≡◌, ◌≤◌, ◌<◌, ℕ, ◌+◌, List, [], ◌∷◌, refl, subst, Bool, true, false, ◌&&◌, not, cond, Option, Some, None, Result, Ok, Err, arith, length, length-append}
 use Rattle.std.proofs.lemmas.Bool.{leb-true}
 use Rattle.std.specs.Prelude.{codes, nat_le, nat_lt, take}
 use Rattle.std.specs.Str.{bytes_eq}

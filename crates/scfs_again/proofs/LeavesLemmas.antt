@@ -1,20 +1,18 @@
 -- What a call leaves in its journal.
-use Rattle.std.proofs.Common.{◌≡◌, ◌≢◌, ◌≤◌, ℕ, List, [], ◌∷◌, ◌++◌, refl, ap, ◌∙◌, sym, subst, Option, Some, None, inl, inr, length, append_assoc, append-nil, arith}
+use Rattle.std.proofs.Common.{◌≡◌, ◌≢◌, ◌≤◌, ℕ, List, [], ◌∷◌, ◌++◌, ap, ◌∙◌, sym, subst, Option, Some, None, inl, inr, length, append_assoc, append-nil, arith}
 use Rattle.std.proofs.lemmas.List.{append_cancel_left}
-use Rattle.scfs_anchor.specs.Tree.{Each}
 use Rattle.scfs_base.specs.Limits.{events_limit}
 use Rattle.scfs_policy.specs.declared.rank.RankFacts.{RankFacts}
 use Rattle.scfs_schedule.specs.Holding.{is_unfinished}
 use Rattle.scfs_schedule.specs.declared.types.Event.{Event}
 use Rattle.scfs_schedule.specs.declared.types.Header.{Header}
 use Rattle.scfs_schedule.specs.declared.types.Which.TheVariants as whichs
-use Rattle.scfs_model.specs.History.{Entry, History}
+use Rattle.scfs_model.specs.History.{History}
 use Rattle.scfs_live.specs.GoingOn.{AreDone, awaited_lines, journal_lines, kept_lines}
 use Rattle.scfs_live.specs.Journal.{pieces_of}
 use Rattle.scfs_live.specs.Keeping.{missing, whole_lines}
 use Rattle.scfs_live.specs.Limits.{journal_limit}
-use Rattle.scfs_live.specs.Reopened.{EndsReopening, ReadsAll, RunsAll, Unwritten, old_lines}
-use Rattle.scfs_live.specs.Reopening.{Walk}
+use Rattle.scfs_live.specs.Reopened.{EndsReopening, RunsAll, Unwritten, old_lines}
 use Rattle.scfs_live.specs.RunAgain.{IsLeftOf}
 use Rattle.scfs_live.specs.Stopped.{WereDriven}
 use Rattle.scfs_live.specs.declared.ending.LiveEnd.{LiveEnd}
@@ -28,9 +26,9 @@ use Rattle.scfs_top.specs.declared.closing.Status.TheVariants as statuses
 use Rattle.scfs_top.specs.declared.stopping.RunEnd.{RunEnd}
 use Rattle.scfs_top.specs.declared.stopping.RunEnd.TheVariants as runs
 use Rattle.scfs_top.specs.Outer.{SinkView}
-use Rattle.scfs_top.specs.Running.{ClosesRun, RunsOn, StopsReopening}
+use Rattle.scfs_top.specs.Running.{ClosesRun, RunsOn}
 use Rattle.scfs_top.specs.Scripting.{script_of}
-use Rattle.scfs_again.specs.Calls.{Call, Comes, Course, HasRun, Meets, course_by, course_in_old, course_of, history}
+use Rattle.scfs_again.specs.Calls.{Call, Comes, Course, course_by, course_in_old, history}
 use Rattle.scfs_again.specs.Leaving.{CallsLeaveJournals, Leaves, SaidBytes}
 use Rattle.scfs_again.proofs.GivenLemmas.{script_given}
 use Rattle.scfs_again.proofs.HeaderLemmas.{header_of_script}

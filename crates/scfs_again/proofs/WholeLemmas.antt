@@ -1,7 +1,6 @@
 -- A journal that was written to its end has all its lines.
 use Rattle.std.proofs.Common.{◌≡◌, ◌≤◌, ℕ, ◌+◌, List, [], ◌∷◌, ◌++◌, refl, ap, ◌∙◌, sym, subst, Bool, true, false, not, cond, eqb, length, map, append_assoc, append-nil, length-append, arith}
 use Rattle.std.specs.List.{flat_map}
-use Rattle.std.proofs.lemmas.Bool.{eqb-true}
 use Rattle.std.proofs.lemmas.Grind.{flat_map-append}
 use Rattle.scfs_base.specs.Pieces.{onto, pieces}
 use Rattle.scfs_schedule.specs.Holding.{is_unfinished}
@@ -10,7 +9,6 @@ use Rattle.scfs_schedule.specs.declared.types.Header.{Header}
 use Rattle.scfs_schedule.specs.declared.types.Line.{Line}
 use Rattle.scfs_model.specs.History.{Entry, History}
 use Rattle.scfs_live.specs.declared.awaited.Awaited.{Awaited}
-use Rattle.scfs_live.specs.Finding.{is_left_out}
 use Rattle.scfs_live.specs.GoingOn.{awaited_lines, event_lines, journal_lines, kept_lines}
 use Rattle.scfs_live.specs.Journal.{entry_piece, kept_line, pieces_of}
 use Rattle.scfs_live.specs.Keeping.{all_but_last, awaited_text, ended, ended_kept, made_line, mark_if, missing, whole_lines}
@@ -18,7 +16,7 @@ use Rattle.scfs_live.specs.Reopening.{Walk}
 use Rattle.scfs_live.specs.RunAgain.{GoesAgain}
 use Rattle.scfs_live.proofs.KeepingLemmas.{all_but_last-pieces}
 use Rattle.scfs_live.proofs.LeavingLemmas.{before, header_whole, kept_lines-append, stops_leave_journals, whole_lines-front}
-use Rattle.scfs_live.proofs.PlainLemmas.{ArePlain, HoldsNoEnd, are_plain_event, are_plain_rows, are_plain_then, header_rows}
+use Rattle.scfs_live.proofs.PlainLemmas.{ArePlain, HoldsNoEnd, are_plain_event, are_plain_rows, are_plain_then}
 use Rattle.scfs_live.proofs.SplitLemmas.{is_unfinished-append}
 
 -- whole lines, byte by byte

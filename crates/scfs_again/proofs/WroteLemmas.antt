@@ -6,7 +6,7 @@ use Rattle.scfs_schedule.specs.declared.types.Which.TheVariants as whichs
 use Rattle.scfs_model.specs.History.{History}
 use Rattle.scfs_live.specs.Edges.{GetsPart, GetsThenPart}
 use Rattle.scfs_live.specs.Journal.{entry_piece, pieces_of}
-use Rattle.scfs_live.specs.Recording.{ShowedPart, WroteAll, WrotePart}
+use Rattle.scfs_live.specs.Recording.{ShowedPart, WrotePart}
 use Rattle.scfs_live.specs.Stopping.{StopWrites}
 use Rattle.scfs_live.specs.declared.ending.LiveEnd.{LiveEnd}
 use Rattle.scfs_live.specs.declared.ending.LiveEnd.TheVariants as lives

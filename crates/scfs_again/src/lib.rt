@@ -4,6 +4,4 @@
 
 mod laws;
 
-pub use laws::{
-    calls_go_on, calls_leave_journals, one_rule_goes_on, second_calls_go_on,
-};
+pub use laws::{calls_go_on, calls_leave_journals, one_rule_goes_on, second_calls_go_on};
