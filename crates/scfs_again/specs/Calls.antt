@@ -51,13 +51,14 @@ pub record Course : Type 0 where
 abbrev pub history : Course → History
 history course = course.new ++ course.place.past
 
--- where running the old journal again ended the run: all of it was run only where writing what was missing failed
+-- where running the old journal again ended the run: all of it had been run only where then writing what was missing failed
 abbrev pub course_in_old : (allows : RankFacts → ℕ → Type 0) (header : Header) (left left' : Option (List ℕ)) (ends_then ends_now : ℕ)
     (before after : Option (List ℕ)) (why : LiveEnd) → EndsReopening allows header left left' ends_then ends_now before after why → Option Course
 course_in_old allows header left left' ends_then ends_now before after (lives.WriteFault whichs.Journal) unwritten =
     Some (record { header = header; place = unwritten.place; new = [] })
 course_in_old allows header left left' ends_then ends_now before after why unread = None
 
+-- the same wherever the run ended
 abbrev pub course_by : (allows : RankFacts → ℕ → Type 0) (call : Call) (taken : List ℕ) (shown : SinkView) (end : RunEnd)
     → Comes allows call taken shown end → Option Course
 course_by allows call taken shown end (inl at_header) = None
@@ -65,10 +66,10 @@ course_by allows call taken shown end (inr (inl in_old)) =
     course_in_old allows in_old.header call.old.left call.old'.left call.old.ends call.old'.ends call.journal.written call.journal'.written in_old.why in_old.reopening
 course_by allows call taken shown end (inr (inr on)) = Some (record { header = on.header; place = on.place; new = on.new })
 
--- what a call has run that read its old journal to its end; the others have run nothing to its end
+-- what a call has run; there is none of a call that did not come to the end of its old journal
 abbrev pub course_of : (allows : RankFacts → ℕ → Type 0) (call : Call) → Meets allows call → Option Course
 course_of allows call meets = course_by allows call meets.runs.taken meets.shown meets.end meets.runs.comes
 
--- a call that read its old journal to its end, with what it has run
+-- a call came to the end of its old journal, and has run this
 abbrev pub HasRun : (allows : RankFacts → ℕ → Type 0) (call : Call) → Meets allows call → Course → Type 0
 HasRun allows call meets course = course_of allows call meets ≡ Some course
