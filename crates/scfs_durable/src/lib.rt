@@ -4,4 +4,6 @@
 
 mod laws;
 
-pub use laws::{committed_versions_stay, versions_stay_safe};
+pub use laws::{
+    committed_versions_stay, serving_is_faithful, stored_names_are_uploads, versions_stay_safe,
+};
