@@ -11,7 +11,7 @@ use Rattle.scfs_net.specs.Queues.{answer_of, first_bytes}
 use Rattle.scfs_net.specs.Store.{Objects, last_of, names_with, stored}
 use Rattle.scfs_model.specs.Format.{Setup}
 use Rattle.scfs_model.specs.History.{History}
-use Rattle.scfs_durable.specs.Stores.{HidingIsStale, IsUpToDate, ServingIsFaithful, objects}
+use Rattle.scfs_durable.specs.Stores.{HidingIsStale, IsUpToDate, ServingIsFaithful, StaysTruthful, objects}
 
 found_up_to_date : (held : Objects) (name : List ℕ) (limit : ℕ) (found : Option (List ℕ)) → stored held name ≡ found
     → IsUpToDate held (requests.Get name limit) (first_bytes limit found)
@@ -48,3 +48,7 @@ hiding_is_stale held (requests.Put name body) fresh = refl
 hiding_is_stale held (requests.Get name limit) fresh = ap (first_bytes limit) (sym fresh)
 hiding_is_stale held (requests.Delete name) fresh = refl
 hiding_is_stale held (requests.List prefix) fresh = ap answers.Names (none_left (last_of names_limit (names_with held prefix)) fresh)
+
+pub stays_truthful : StaysTruthful
+stays_truthful s c [] past never was = was
+stays_truthful s c (e ∷ new) past never was = (never.0, stays_truthful s c new past never.1 was)

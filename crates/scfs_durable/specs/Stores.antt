@@ -100,3 +100,7 @@ ServingIsFaithful =
 -- One that hides what a cloud holds is up to date only where serving gives the same.
 abbrev pub HidingIsStale : Type 0
 HidingIsStale = (objects : Objects) (request : CloudRequest) → IsUpToDate objects request (hidden_answer request) → hidden_answer request ≡ answer_of objects request
+
+-- A cloud that never lied in a history, nor in new events behind it, never lied in all of it.
+abbrev pub StaysTruthful : Type 0
+StaysTruthful = (s : Setup) (c : ℕ) (new past : History) → NeverLied s c new past → IsTruthful s past c → IsTruthful s (new ++ past) c

@@ -2,7 +2,7 @@
 
 ghost use Rattle.scfs_durable.specs.Named.{NamesAreUploads};
 ghost use Rattle.scfs_durable.specs.Safe.{AlwaysSafe, CommittedStay};
-ghost use Rattle.scfs_durable.specs.Stores.{HidingIsStale, ServingIsFaithful};
+ghost use Rattle.scfs_durable.specs.Stores.{HidingIsStale, ServingIsFaithful, StaysTruthful};
 
 /// After every front of a history in which at most f clouds lied, each version in the shared tree is held, under its upload's own name
 /// and exactly as its upload sealed the contents of the session that was closed, by f + 1 different clouds that never lied. Nothing is
@@ -27,4 +27,9 @@ pub fn stored_names_are_uploads()
 pub fn serving_is_faithful()
     ensures serves { ServingIsFaithful }
     ensures hides { HidingIsStale }
+{}
+
+/// A cloud that never lied in a history, nor in new events behind it, never lied in all of it.
+pub fn truthful_clouds_stay_so()
+    ensures { StaysTruthful }
 {}

@@ -5,5 +5,6 @@
 mod laws;
 
 pub use laws::{
-    committed_versions_stay, serving_is_faithful, stored_names_are_uploads, versions_stay_safe,
+    committed_versions_stay, serving_is_faithful, stored_names_are_uploads,
+    truthful_clouds_stay_so, versions_stay_safe,
 };
