@@ -101,7 +101,7 @@ module _ (Was : Sent → Type 0) (c : ℕ) where
     names_stay objects q answers.Ack from h = by q.body from (plain _ from)
       where
         by : (did : CloudRequest) → WasOf q.request did → IsPlain did → All IsPutName (keys_of (objects_after objects did answers.Ack))
-        by (requests.Put name body) k p = All-keys-insert_entry (slice_cmp nat_cmp) name body IsPutName objects h (body, q.request, k)
+        by (requests.Put name body) k p = All-keys-insert_entry (slice_cmp nat_cmp) name body IsPutName objects h (body, (q.request, k))
         by (requests.Get name limit) k p = h
         by (requests.Delete name) k p = absurd p
         by (requests.List prefix) k p = absurd p
@@ -192,5 +192,5 @@ cloud_more Was Later c cloud more h =
     record {
       requests = each-map (IsWaiting Was c) (IsWaiting Later c) (λ q is. more _ is) cloud.requests h.requests;
       replies = each-map (IsReply Was c cloud.objects) (IsReply Later c cloud.objects) (λ g is ack. let d = is ack in (d.0, more _ d.1, d.2)) cloud.replies h.replies;
-      names = All-weaker (IsPutName Was c) (IsPutName Later c) (λ name put. (put.0, put.1.0, more _ put.1.1)) (keys_of cloud.objects) h.names;
+      names = All-weaker (IsPutName Was c) (IsPutName Later c) (λ name put. (put.0, (put.1.0, more _ put.1.1))) (keys_of cloud.objects) h.names;
     }

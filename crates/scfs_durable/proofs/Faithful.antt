@@ -1,5 +1,5 @@
 -- Answers that serve are no lies and up to date; those that hide something are stale.
-use Rattle.std.proofs.Common.{◌≡◌, ◌⊎◌, inl, inr, ⊎_elim, ℕ, List, [], ◌∷◌, Option, Some, None, refl, sym, ap, subst, arith, Contains}
+use Rattle.std.proofs.Common.{◌≡◌, inl, inr, ⊎_elim, ℕ, List, [], ◌∷◌, Option, Some, None, refl, sym, ap, subst, arith, Contains}
 use Rattle.std.specs.List.{All}
 use Rattle.std.proofs.lemmas.List.Elements.{All-contains_itself, All-head}
 use Rattle.scfs_base.specs.Limits.{names_limit}
@@ -9,8 +9,6 @@ use Rattle.scfs_base.specs.declared.cloud.CloudRequest.{CloudRequest}
 use Rattle.scfs_base.specs.declared.cloud.CloudRequest.TheVariants as requests
 use Rattle.scfs_net.specs.Queues.{answer_of, first_bytes}
 use Rattle.scfs_net.specs.Store.{Objects, last_of, names_with, stored}
-use Rattle.scfs_model.specs.Format.{Setup}
-use Rattle.scfs_model.specs.History.{History}
 use Rattle.scfs_durable.specs.Stores.{HidingIsStale, IsUpToDate, ServingIsFaithful, StaysTruthful, objects}
 
 found_up_to_date : (held : Objects) (name : List ℕ) (limit : ℕ) (found : Option (List ℕ)) → stored held name ≡ found

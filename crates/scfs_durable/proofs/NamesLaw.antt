@@ -4,7 +4,6 @@ use Rattle.std.specs.Map.{keys_of}
 use Rattle.std.proofs.lemmas.List.Elements.{All-weaker}
 use Rattle.scfs_base.specs.Words.{hex_pair}
 use Rattle.scfs_base.specs.declared.cloud.CloudRequest.TheVariants as requests
-use Rattle.scfs_base.specs.declared.naming.RequestNo.{RequestNo}
 use Rattle.scfs_base.specs.declared.naming.UploadNo.{UploadNo}
 use Rattle.scfs_model.specs.Format.{Setup}
 use Rattle.scfs_model.specs.History.{History}
@@ -24,7 +23,7 @@ long_name u = refl
 
 module _ (s : Setup) (past : History) (few : IsNameable s past) (c : ℕ) where
   is_upload : (name : List ℕ) → IsPutName (WasSent s past) c name → IsUploadName s past name
-  is_upload name (body, n, was) =
+  is_upload name (body, (n, was)) =
       let made = (always_drawn s past).made (record { number = n; cloud = c; body = requests.Put name body }) was in
       let upload : UploadNo = made.0 in
       record {
