@@ -1,5 +1,11 @@
 -- What a cloud acknowledged it holds, where one name has one body.
 use Rattle.std.proofs.Common.{◌≡◌, ℕ, List, [], ◌∷◌, take, drop, sym, subst, Some}
+use Rattle.std.specs.List.{All}
+use Rattle.std.specs.Cmp.Lexicographic.{slice_cmp}
+use Rattle.std.specs.Map.{keys_of}
+use Rattle.std.specs.Ordering.{nat_cmp}
+use Rattle.std.proofs.lemmas.List.Elements.{All-weaker}
+use Rattle.std.proofs.lemmas.Map.Views.{All-keys-insert_entry}
 use Rattle.scfs_base.specs.declared.naming.RequestNo.{RequestNo}
 use Rattle.scfs_base.specs.declared.cloud.CloudRequest.{CloudRequest}
 use Rattle.scfs_base.specs.declared.cloud.CloudRequest.TheVariants as requests
@@ -42,9 +48,14 @@ module _ (Was : Sent → Type 0) (c : ℕ) where
   abbrev pub IsReply : Objects → Given → Type 0
   IsReply objects g = g.answer ≡ answers.Ack → (body : CloudRequest) × WasOf g.request body × IsHeld objects body
 
+  -- a name was put
+  abbrev pub IsPutName : (name : List ℕ) → Type 0
+  IsPutName name = (body : List ℕ) × WasPut Was name body c
+
   pub record IsCloud (cloud : CloudState) : Type 0 where
     pub requests : Each IsWaiting cloud.requests
     pub replies : Each (IsReply cloud.objects) cloud.replies
+    pub names : All IsPutName (keys_of cloud.objects)
 
   module _ (plain : (x : Sent) → Was x → IsPlain x.body) (one_body : (name body other : List ℕ) → WasPut Was name body c → WasPut Was name other c → body ≡ other)
       (old : Objects) where
@@ -81,6 +92,20 @@ module _ (Was : Sent → Type 0) (c : ℕ) where
         by (requests.Delete name) = tt
         by (requests.List prefix) = tt
 
+    names_stay : (objects : Objects) (q : Asked) (answer : CloudAnswer) → IsWaiting q → All IsPutName (keys_of objects)
+        → All IsPutName (keys_of (objects_after objects q.body answer))
+    names_stay objects q answers.Absent from h = h
+    names_stay objects q (answers.Bytes bytes) from h = h
+    names_stay objects q (answers.Names names) from h = h
+    names_stay objects q answers.Fail from h = h
+    names_stay objects q answers.Ack from h = by q.body from (plain _ from)
+      where
+        by : (did : CloudRequest) → WasOf q.request did → IsPlain did → All IsPutName (keys_of (objects_after objects did answers.Ack))
+        by (requests.Put name body) k p = All-keys-insert_entry (slice_cmp nat_cmp) name body IsPutName objects h (body, (q.request, k))
+        by (requests.Get name limit) k p = h
+        by (requests.Delete name) k p = absurd p
+        by (requests.List prefix) k p = absurd p
+
     answer_keeps : (answering : Answering) (cloud : CloudState) (waiting : List Asked) → Each IsWaiting waiting → IsKept cloud
         → IsKept (after_answer cloud waiting (answer_to answering cloud.objects waiting))
     answer_keeps answering cloud [] from k = k
@@ -94,6 +119,7 @@ module _ (Was : Sent → Type 0) (c : ℕ) where
                 (each-map (IsReply cloud.objects) (IsReply now)
                 (λ g is ack. let d = is ack in (d.0, d.1, held_stays cloud.objects q answer g.request d.0 from.0 d.1 d.2)) cloud.replies k.so.replies)
                 (new_reply cloud.objects q answer from.0, tt);
+            names = names_stay cloud.objects q answer from.0 k.so.names;
           };
           held = λ n body was h. held_stays cloud.objects q answer n body from.0 was (k.held n body was h);
         }
@@ -102,10 +128,10 @@ module _ (Was : Sent → Type 0) (c : ℕ) where
     answered_keeps answering cloud k = answer_keeps answering cloud cloud.requests k.so.requests k
 
     with_requests : (cloud : CloudState) (qs : List Asked) → IsKept cloud → Each IsWaiting qs → IsKept (record cloud { requests = qs })
-    with_requests cloud qs k each = record { so = record { requests = each; replies = k.so.replies }; held = k.held }
+    with_requests cloud qs k each = record { so = record { requests = each; replies = k.so.replies; names = k.so.names }; held = k.held }
 
     with_replies : (cloud : CloudState) (gs : List Given) → IsKept cloud → Each (IsReply cloud.objects) gs → IsKept (record cloud { replies = gs })
-    with_replies cloud gs k each = record { so = record { requests = k.so.requests; replies = each }; held = k.held }
+    with_replies cloud gs k each = record { so = record { requests = k.so.requests; replies = each; names = k.so.names }; held = k.held }
 
     -- what an event itself does to the clouds
     pub moved_keeps : (net : NetState) (event : Event) → IsKept (cloud_at net c) → IsKept (cloud_at (moved_by event net) c)
@@ -166,4 +192,5 @@ cloud_more Was Later c cloud more h =
     record {
       requests = each-map (IsWaiting Was c) (IsWaiting Later c) (λ q is. more _ is) cloud.requests h.requests;
       replies = each-map (IsReply Was c cloud.objects) (IsReply Later c cloud.objects) (λ g is ack. let d = is ack in (d.0, more _ d.1, d.2)) cloud.replies h.replies;
+      names = All-weaker (IsPutName Was c) (IsPutName Later c) (λ name put. (put.0, (put.1.0, more _ put.1.1))) (keys_of cloud.objects) h.names;
     }

@@ -1,6 +1,7 @@
 -- What a cloud acknowledged to an agent it holds from then on.
 use Rattle.std.proofs.Common.{◌≡◌, inl, inr, ℕ, zero, suc, ◌+◌, ◌*◌, List, [], ◌∷◌, replicate, refl, sym, ap, ◌∙◌, subst, arith, Some, None}
 use Rattle.std.specs.List.{slice_index_or}
+use Rattle.std.proofs.lemmas.List.Elements.{All-nil}
 use Rattle.scfs_base.specs.declared.naming.RequestNo.{RequestNo}
 use Rattle.scfs_base.specs.declared.cloud.CloudAnswer.{CloudAnswer}
 use Rattle.scfs_base.specs.declared.cloud.CloudAnswer.TheVariants as answers
@@ -21,7 +22,7 @@ use Rattle.scfs_durable.specs.Stores.{objects}
 use Rattle.scfs_durable.specs.Safe.{IsNameable}
 use Rattle.scfs_durable.proofs.Drawn.{always_drawn}
 use Rattle.scfs_durable.proofs.OneBody.{all_plain, one_body}
-use Rattle.scfs_durable.proofs.CloudLemmas.{IsHeld, IsReply, IsCloud, IsKept, moved_keeps, placed_keeps, cloud_more}
+use Rattle.scfs_durable.proofs.CloudLemmas.{IsHeld, IsReply, IsCloud, IsKept, IsPutName, moved_keeps, placed_keeps, cloud_more}
 
 pub nameable_before : (s : Setup) (e : Entry) (past : History) → IsNameable s (e ∷ past) → IsNameable s past
 nameable_before s e past few = let events = few.events in record { agents = few.agents; events = omega (arith, events) }
@@ -32,7 +33,7 @@ nobody_asked (suc n) zero = refl
 nobody_asked (suc n) (suc c) = nobody_asked n c
 
 module _ (s : Setup) (c : ℕ) where
-  abbrev IsCloudAt : History → Type 0
+  abbrev pub IsCloudAt : History → Type 0
   IsCloudAt past = IsCloud (WasSent s past) c (cloud_at (net s past) c)
 
   abbrev IsKeptAt : (e : Entry) (past : History) → IsNameable s (e ∷ past) → Type 0
@@ -51,8 +52,8 @@ module _ (s : Setup) (c : ℕ) where
       (moved_keeps Later c plain one (objects s past c) (net s past) e.event
       (record { so = cloud_more (WasSent s past) Later c (cloud_at (net s past) c) (λ x is. inr is) h; held = λ n body was held. held }))
 
-  always_cloud : (past : History) → IsNameable s past → IsCloudAt past
-  always_cloud [] few = subst (IsCloud (WasSent s []) c) (sym (nobody_asked (3 * s.header.f + 1) c)) (record { requests = tt; replies = tt })
+  pub always_cloud : (past : History) → IsNameable s past → IsCloudAt past
+  always_cloud [] few = subst (IsCloud (WasSent s []) c) (sym (nobody_asked (3 * s.header.f + 1) c)) (record { requests = tt; replies = tt; names = All-nil (IsPutName (WasSent s []) c) })
   always_cloud (e ∷ past) few = (next_cloud e past few (always_cloud past (nameable_before s e past few))).so
 
   -- what was acknowledged was asked

@@ -11,3 +11,5 @@ pub mod Holding
 pub mod Safe
 pub mod OneMore
 pub mod Variants
+pub mod NamesLaw
+pub mod Faithful

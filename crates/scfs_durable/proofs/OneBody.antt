@@ -55,7 +55,7 @@ module _ (s : Setup) (past : History) (few : IsNameable s past) where
   pub of_agent : (a : ℕ) (u : UploadNo) (contents : List ℕ) → WasUploading s past a u contents → u.agent ≡ a
   of_agent a u contents was = let seat = seat_of a u contents was in ((d.seats a seat.0 seat.1).drew u contents was).0
 
-  fits : (a : ℕ) (u : UploadNo) (contents : List ℕ) → WasUploading s past a u contents → IsUploadNo u
+  pub fits : (a : ℕ) (u : UploadNo) (contents : List ℕ) → WasUploading s past a u contents → IsUploadNo u
   fits a u contents was =
       let seat = seat_of a u contents was in
       let k : IsSeat s past a seat.0 = d.seats a seat.0 seat.1 in

@@ -4,4 +4,7 @@
 
 mod laws;
 
-pub use laws::{committed_versions_stay, versions_stay_safe};
+pub use laws::{
+    committed_versions_stay, serving_is_faithful, stored_names_are_uploads,
+    truthful_clouds_stay_so, versions_stay_safe,
+};

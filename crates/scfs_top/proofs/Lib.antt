@@ -17,6 +17,7 @@ pub mod RunClosing
 pub mod RunLemmas
 pub mod ScriptEvents
 pub mod ScriptLemmas
+pub mod StoreLemmas
 pub mod TurnLemmas
 pub mod UnderwayLemmas
 pub mod UnreadLemmas

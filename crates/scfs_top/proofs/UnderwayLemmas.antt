@@ -39,6 +39,7 @@ use Rattle.scfs_top.specs.declared.closing.Filled.TheVariants as filleds
 use Rattle.scfs_top.specs.declared.intake.Intake.{Intake}
 use Rattle.scfs_top.specs.declared.stopping.RunEnd.{RunEnd}
 use Rattle.scfs_top.specs.declared.stopping.RunEnd.TheVariants as runs
+use Rattle.scfs_top.specs.KeepingStep.{AllKeepStep}
 use Rattle.scfs_top.specs.Outer.{SinkView, SourceView}
 use Rattle.scfs_top.specs.Playing.{Playing}
 use Rattle.scfs_top.specs.Plays.{Known}
@@ -317,9 +318,10 @@ pub runs_on : (allows : RankFacts → ℕ → Type 0) (old old' : SourceView) (o
     (place : Walk) (reopened : Option (List ℕ)) (taken : List ℕ) (end : RunEnd) → ReadsAll allows header old.left old'.left old.ends old'.ends text place
     → Puts journal.written reopened (missing (is_unfinished text) place.awaited)
     → (e : Ending allows header place.past taken reopened journal'.written out.written out'.written clouds clouds' end) → Known allows header (e.new ++ place.past)
+    → AllKeepStep end (under header) e.new place.past clouds clouds'
     → (end ≡ runs.Stopped (lives.WriteFault whichs.Journal) → Rose journal.faults journal'.faults)
     → (end ≡ runs.Stopped (lives.WriteFault whichs.Out) → Rose out.faults out'.faults) → RunsOn allows taken old old' out out' journal journal' clouds clouds' end
-runs_on allows old old' out out' journal journal' clouds clouds' header text place reopened taken end reads filled_in e known journal_failed out_failed = record {
+runs_on allows old old' out out' journal journal' clouds clouds' header text place reopened taken end reads filled_in e known stores journal_failed out_failed = record {
   header = header;
   stated = e.stated;
   text = text;
@@ -333,6 +335,7 @@ runs_on allows old old' out out' journal journal' clouds clouds' header text pla
   driven = e.driven;
   live = e.live;
   ends = e.ends;
+  stores = stores;
   wrote = e.wrote;
   pace = e.pace;
   journal_failed = journal_failed;

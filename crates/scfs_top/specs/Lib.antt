@@ -5,6 +5,7 @@ pub mod Edges
 pub mod Finishing
 pub mod Giving
 pub mod Headline
+pub mod KeepingStep
 pub mod Outer
 pub mod Pace
 pub mod Playing

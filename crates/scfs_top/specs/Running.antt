@@ -30,6 +30,7 @@ use Rattle.scfs_top.specs.declared.stopping.RunEnd.{RunEnd}
 use Rattle.scfs_top.specs.declared.stopping.RunEnd.TheVariants as runs
 use Rattle.scfs_top.specs.Closing.{closing_of}
 use Rattle.scfs_top.specs.Headline.{Closes}
+use Rattle.scfs_top.specs.KeepingStep.{AllKeepStep}
 use Rattle.scfs_top.specs.Outer.{SinkView, SourceView}
 use Rattle.scfs_top.specs.Playing.{Playing, finished}
 use Rattle.scfs_top.specs.Plays.{Known}
@@ -115,7 +116,7 @@ RunWrites (runs.Stopped why) j j' o o' new past = StopWrites why j j' o o' new p
 
 -- Then the script is driven. The old journal was read to its end and run again, and what was missing in it was written; behind its history
 -- there are new events, each the one that comes next in the script's run, and no more than may; all of it was played. Journal and out got what
--- the new events have, and the clouds were asked what they record.
+-- the new events have, and the clouds were asked what they record; those that tell their stores kept step.
 pub record RunsOn (allows : RankFacts → ℕ → Type 0) (taken : List ℕ) (old old' : SourceView) (out out' journal journal' : SinkView) (clouds clouds' : List Told)
     (end : RunEnd) : Type 0 where
   pub header : Header
@@ -131,6 +132,7 @@ pub record RunsOn (allows : RankFacts → ℕ → Type 0) (taken : List ℕ) (ol
   pub driven : IsDriven (under header) (script_of taken).events new place.past
   pub live : AreLive new
   pub ends : EndsDriving allows end header (script_of taken) new place.past clouds clouds'
+  pub stores : AllKeepStep end (under header) new place.past clouds clouds'
   pub wrote : RunWrites end reopened journal'.written out.written out'.written new place.past
   pub pace : KeepsToHeader taken ⊎ KeepsUp (under header) new place.past taken
   pub journal_failed : end ≡ runs.Stopped (lives.WriteFault whichs.Journal) → Rose journal.faults journal'.faults

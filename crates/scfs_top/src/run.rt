@@ -18,9 +18,9 @@ use crate::intake::{Given, Intake};
 use crate::stopping::RunEnd;
 use scfs_base::{Sink, Source};
 use scfs_cloud::Cloud;
-use scfs_durable::versions_stay_safe;
+use scfs_durable::{serving_is_faithful, stored_names_are_uploads, versions_stay_safe};
 use scfs_laws::{opens_are_newest, reads_are_held, runs_without_clash};
-use scfs_live::{LiveEnd, drive, reopen};
+use scfs_live::{LiveEnd, drive, reopen, stores_keep_step};
 use scfs_policy::{RankFacts, RankRule};
 use scfs_schedule::{Event, Header};
 use scfs_world::{is_built, is_built_header};
@@ -94,6 +94,9 @@ pub fn run<I: Source, L: Source, O: Sink, J: Sink, C: Cloud, R: Fn(RankFacts) ->
     opens_are_newest();
     versions_stay_safe();
     runs_without_clash();
+    stored_names_are_uploads();
+    serving_is_faithful();
+    stores_keep_step();
     let mut intake = Intake::new(alloc, true);
     let header = match read_header(&mut intake, input) {
         Ok(header) => header,

@@ -16,6 +16,7 @@ use Rattle.scfs_top.specs.declared.stopping.RunEnd.{RunEnd}
 use Rattle.scfs_top.specs.declared.stopping.RunEnd.TheVariants as runs
 use Rattle.scfs_top.specs.Scripting.{script_of}
 use Rattle.scfs_top.specs.Underway.{EndsScript}
+use Rattle.scfs_top.proofs.StoreLemmas.{StoreLaws, stores_of}
 use Rattle.scfs_top.proofs.UnderwayLemmas.{begins, counts_on, drove_on, drove_to, ended, fewer, given_next, known_of, one_if_none, reads_open, rose_since, runs_on, same_why, states, walk_few}
 use Rattle.scfs_top.proofs.run.run.Goals as goal
 
@@ -84,10 +85,19 @@ returns-in-Err-drive-clause-runs g c =
     let e = drove_to allows i.header i.place.past c.events.world _ c.events.intake _ _ _ _ _ _ _ _ i.behind _ c.in-Err-drive.why _ _ _
     (ap (begins_with (under i.header)) (sym c.as_ref.ensures.value)) ends in
     let known = known_of allows i.header (e.new ++ i.place.past) c.runs_without_clash.ensures c.reads_are_held.ensures c.opens_are_newest.ensures.made c.versions_stay_safe.ensures i.is e.few e.plays in
+    let laws : StoreLaws = record {
+      names = c.stored_names_are_uploads.ensures;
+      serving = c.serving_is_faithful.ensures.serves;
+      keeps = c.stores_keep_step.ensures.keeps;
+      comes = c.stores_keep_step.ensures.comes;
+      stays = c.stores_keep_step.ensures.stays;
+      once_more = c.stores_keep_step.ensures.once_more;
+    } in
+    let stores = stores_of laws allows i.header i.place.past i.behind.script.taken _ _ _ _ _ _ (runs.Stopped c.in-Err-drive.why) i.is e in
     record {
       taken = i.behind.script.taken;
       reads = reads_open _ _ _ _ _ i.behind.script;
-      comes = inr (inr (runs_on allows _ _ _ _ _ _ _ _ i.header i.text i.place _ i.behind.script.taken (runs.Stopped c.in-Err-drive.why) i.reads i.filled_in e known
+      comes = inr (inr (runs_on allows _ _ _ _ _ _ _ _ i.header i.text i.place _ i.behind.script.taken (runs.Stopped c.in-Err-drive.why) i.reads i.filled_in e known stores
           (λ h. rose_since _ _ _ i.later_journal (on.causes.journal_failed (ap Err (same_why c.in-Err-drive.why (lives.WriteFault whichs.Journal) h))))
           (λ h. rose_since _ _ _ i.later_out (on.causes.out_failed (ap Err (same_why c.in-Err-drive.why (lives.WriteFault whichs.Out) h))))));
     }
@@ -142,10 +152,19 @@ returns-in-Err-next_event-clause-runs g c =
     let e = ended allows i.header i.place.past c.in-Ok-drive.after d.driver c.events.intake _ _ _ _ _ _ _ _ on.0 on.2 c.events-in-events.result end gives.0
     (c.events-in-events.ensures ∙ on.0.stands.count) few gives.2 gives.3 in
     let known = known_of allows i.header (e.new ++ i.place.past) c.runs_without_clash.ensures c.reads_are_held.ensures c.opens_are_newest.ensures.made c.versions_stay_safe.ensures i.is e.few e.plays in
+    let laws : StoreLaws = record {
+      names = c.stored_names_are_uploads.ensures;
+      serving = c.serving_is_faithful.ensures.serves;
+      keeps = c.stores_keep_step.ensures.keeps;
+      comes = c.stores_keep_step.ensures.comes;
+      stays = c.stores_keep_step.ensures.stays;
+      once_more = c.stores_keep_step.ensures.once_more;
+    } in
+    let stores = stores_of laws allows i.header i.place.past gives.0 _ _ _ _ _ _ end i.is e in
     record {
       taken = gives.0;
       reads = gives.1;
-      comes = inr (inr (runs_on allows _ _ _ _ _ _ _ _ i.header i.text i.place _ gives.0 end i.reads i.filled_in e known
+      comes = inr (inr (runs_on allows _ _ _ _ _ _ _ _ i.header i.text i.place _ gives.0 end i.reads i.filled_in e known stores
           (λ h. absurd (subst (λ (x : RunEnd). EndsScript x i.header on.0.done c.events-in-events.result (script_of gives.0)) h gives.3))
           (λ h. absurd (subst (λ (x : RunEnd). EndsScript x i.header on.0.done c.events-in-events.result (script_of gives.0)) h gives.3))));
     }
