@@ -1,0 +1,10 @@
+pub mod UnitSizes
+pub mod Reader
+pub mod ReaderInputs
+pub mod Answered
+pub mod AgentLines
+pub mod Sights
+pub mod Following
+pub mod Going
+pub mod Beginning
+pub mod Variants
